@@ -1,7 +1,6 @@
 package vt220
 
 import (
-	"bytes"
 	"encoding/hex"
 	"errors"
 	"fmt"
@@ -107,40 +106,7 @@ func isSame(one, other *Terminal) bool {
 	return one.SameState(other) && one.Alternate() == other.Alternate() && string(one.Pending()) == string(other.Pending())
 }
 
-// rebuilds checks that the repaint of a terminal rebuilds it on another one, as an update does. There is neither inside a sequence.
-func (r screen) rebuilds(t *testing.T, s *Scratch, terminal *Terminal) string {
-	const start = "any\x1b[5mthing\x1b[?3h\x1b[?47hpage"
-	painted, updated, shown := r.open(t, start+"\xe2"), r.open(t, start), r.open(t, start)
-	if terminal.Rows() == r.sizes[1][0] {
-		r.change(t, painted, updated, shown)
-	}
-	repaint, err := terminal.Repaint(s)
-	update, err2 := shown.Update(terminal, s)
-	if !terminal.IsBetween() {
-		if err != ErrPartial || r.language != Xterm && err2 != ErrPartial || terminal.Held() == HeldNothing {
-			t.Errorf("%s: inside a sequence: %v, %v", r.name, err, err2)
-		}
-		return "partial"
-	}
-	if err != nil || len(painted.Feed(repaint)) > 0 || r.language != Bytes && len(painted.Pending()) > 0 {
-		t.Errorf("%s: the repaint %q: %v", r.name, repaint, err)
-	}
-	painted.Feed(terminal.Pending())
-	if again, err := painted.Repaint(s); err != nil || !bytes.Equal(again, repaint) || !isSame(painted, terminal) {
-		t.Errorf("%s: the repaint, played: %q: %v", r.name, repaint, err)
-	}
-	if r.language != Xterm {
-		if err2 != nil || !shown.SameState(terminal) || len(updated.Feed(update)) > 0 || !updated.SameState(terminal) {
-			t.Errorf("%s: the update %q: %v", r.name, update, err2)
-		}
-		if update, err = shown.Update(terminal, s); err != nil || len(update) > 0 {
-			t.Errorf("%s: an update of equal states: %q, %v", r.name, update, err)
-		}
-	}
-	return hex.EncodeToString(repaint)
-}
-
-// play plays the row in chunks, with the log and without one. Another terminal is copied from it after each chunk.
+// play plays the row in chunks, with the log and without one.
 func (r screen) play(t *testing.T, s *Scratch, size int) {
 	terminal, other := r.open(t, ""), r.open(t, "")
 	var reports, lines string
@@ -157,20 +123,15 @@ func (r screen) play(t *testing.T, s *Scratch, size int) {
 			if err != nil || string(other.Feed(piece)) != string(now) || !isSame(other, terminal) {
 				t.Errorf("%s: % X: the log differs: %v", r.name, piece, err)
 			}
-			if other.Reset() != nil || other.CopyFrom(terminal) != nil || !isSame(other, terminal) {
-				t.Error(r.name, "a copy")
-			}
-			if r.language == Xterm && r.sizes[0] == [2]int{Rows, 80} {
-				r.rebuilds(t, s, terminal)
-			}
 			reports, lines, input = reports+string(now), lines+string(off), input[len(piece):]
 		}
 	}
 	if found := described(t, terminal, s, reports, lines); r.wanted != "-" && found != r.wanted {
 		t.Errorf("%s in chunks of %d: %s, and not %s", r.name, size, found, r.wanted)
 	}
-	if repaint := r.rebuilds(t, s, terminal); r.repaint != "-" && repaint != r.repaint {
-		t.Errorf("%s in chunks of %d: the repaint %s, and not %s", r.name, size, repaint, r.repaint)
+	repaint, failed := terminal.Repaint(s)
+	if failed != nil && (failed != ErrPartial || terminal.IsBetween()) || r.repaint != "-" && r.repaint != "partial" && hex.EncodeToString(repaint) != r.repaint {
+		t.Errorf("%s in chunks of %d: the repaint %q, and not %s: %v", r.name, size, repaint, r.repaint, failed)
 	}
 	text, err := terminal.Text(s)
 	shown, _ := terminal.Show(s)

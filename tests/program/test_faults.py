@@ -7,8 +7,6 @@ import pytest
 from samples import SESSION, SPECIFIED, WORDS, said
 
 READ, WRITE, TOO_LONG = "read failed", "write failed", "input is longer than the limit"
-TIMES = said("the input has no times; give the moment in bytes, as 4096b, or script its --timing FILE",
-             "a recording by ttyrec or asciinema has times: add --format ttyrec, asciicast or auto")
 
 
 def reason(name, number):
@@ -26,22 +24,6 @@ def run_there(run, tmp_path):
     for name, content in (("recording", SESSION), ("times", b"0.5 6\n"), ("lines", 100 * b"line\r\n"), ("as", b"Script started on x\n" + b"a" * 9000), ("as.times", b"0.001 1\n" * 9000)):
         (tmp_path / name).write_bytes(content)
     return lambda line, **more: run(line, cwd=tmp_path, **more)
-
-
-@pytest.mark.parametrize("words", ("--format raw --timing x", "--format ttyrec --timing x", "--until 12.5", "--format script --until 3", "--format mp4", "--until x", "--until 1:60",
-                                   "--until 1.1234567", "--until b", "--until -1", "--until event:0", "--until marker:x", "--from 4b"))
-def test_refusal(run, words):
-    done = run(f"text {words}")
-    assert (done.status, done.out) == (2, b"") and done.err != b""
-
-
-@pytest.mark.parametrize("words, err", (
-    ("text --until 12.5", TIMES), ("events --format raw --from 12.5", TIMES),
-    *((f"{word} --from 4b", said("--from goes with events and content alone")) for word in WORDS if word != "content"),
-    ("text --format mp4", said("--format is raw, script, ttyrec or asciicast", "or it is auto: then the beginning of the input decides")),
-))
-def test_reason_of_a_refusal(run, words, err):
-    assert run(words).err == err
 
 
 @pytest.mark.parametrize("words, name, number", (

@@ -57,7 +57,7 @@ def test_kept_end():
     left = outer.read().rpartition(b"\033[?1049l")[2]
     assert b"ready\r\nlast words\r\nvt220-keep: seen ended with status 3" in left, "its last screen is printed after the alternate one"
     outer.close()
-    outer = Terminal("new", "-A", "seen", "sh", "-c", "stty -echo; seq 300; read x; exit 3", shows=b"300")
+    outer = Terminal("new", "-A", "seen", "sh", "-c", "stty -echo; seq 300; printf end; read x; exit 3", shows=b"end")
     outer.type(b"\r")
     assert outer.status() == 3 and row("seen") is None, "it ends, and the list leaves it out"
     assert keep("log", "seen").stdout.split()[:300] == [*map(str, range(1, 301))], "its log stays"

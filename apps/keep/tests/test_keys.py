@@ -95,38 +95,9 @@ def test_sent():
         refused = done.returncode == 2 and said in done.stderr
         assert refused != (word == "Hlep"), f"send {word}: {done.returncode} {done.stderr}"
     wait(lambda: got.read_bytes().lstrip(b"\0") == b"textHlep", f"of those that are refused nothing is sent: {got.read_bytes()}")
+    done = keep("send", "sent", "3÷4")
+    assert done.returncode == 1 and done.stderr == "vt220-keep: no key of a VT220 sends some of these characters; the others are sent\n", "send tells of others"
+    wait(lambda: got.read_bytes().lstrip(b"\0") == b"textHlep34", "and sends the rest")
     before = got.stat().st_size
     assert keep("send", "sent", input="é\n" * 20000).returncode == 0, "send of standard input"
     wait(lambda: got.stat().st_size == before + 40000, "all of it arrives")
-
-
-def test_modes_of_keys():
-    """Keys by name and as they are typed, under LNM, DECCKM, DECKPAM and S8C1T. The bytes are those of the VT220's manual, chapter 3."""
-    got = reads("modes", "\\033[20h\\033[?1h\\033=\\033 G")
-    outer = Terminal("attach", "modes", shows=b"ready")
-    wanted = b""
-    for named, sent in ((["Enter", "return", "KP_Enter"], b"\r\n\r\n\x8fM"), (["Delete", "Backspace"], b"\x7f\x7f"), (["Remove", "Do", "F15"], b"\x9b3~\x9b29~\x9b28~"),
-                        (["Up", "F1", "KP5", "KPComma"], b"\x8fA\x8fP\x8fu\x8fl"), (["C-m", "C-[", "C-8"], b"\r\x1b\x7f"), (["œÿŒ¤"], b"\xf7\xfd\xd7\xa8")):
-        assert keep("send", "modes", *named).returncode == 0, f"send {named}"
-        wanted += sent
-        wait(lambda: got.read_bytes() == wanted, f"{named} arrive: {got.read_bytes()[-20:]!r}")
-    for typed, sent in ((b"\r", b"\r\n"), (b"\x7f\033[3~", b"\x7f\x9b3~"), (b"\033[A\033OP\033Ou\033[28~", b"\x8fA\x8fP\x8fu\x9b28~"), ("œÿŒ¤".encode(), b"\xf7\xfd\xd7\xa8")):
-        outer.type(typed)
-        wanted += sent
-        wait(lambda: got.read_bytes() == wanted, f"{typed!r} arrives: {got.read_bytes()[-20:]!r}")
-    done = keep("send", "modes", "3÷4")
-    assert done.returncode == 1 and done.stderr == "vt220-keep: no key of a VT220 sends some of these characters; the others are sent\n", "send tells of others"
-    wait(lambda: got.read_bytes() == wanted + b"34", "and sends the rest")
-
-
-def test_typed_characters():
-    """Characters of one to four bytes: those that no key sends ring the bell, and nothing of them is sent."""
-    got = reads("typed", "")
-    outer = Terminal("attach", "typed", shows=b"ready")
-    wanted = b""
-    for character in ("\u20ac", "\U0001f600", "\u2426", "\u0416", "\u2500"):
-        bells = outer.read().count(b"\a")
-        outer.type(f"a{character}b".encode())
-        wanted += b"ab"
-        wait(lambda: got.read_bytes() == wanted, f"{character!r} isn't sent")
-        wait(lambda: outer.read().count(b"\a") > bells, f"{character!r} rings the bell")

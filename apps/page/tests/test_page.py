@@ -15,7 +15,7 @@ import tempfile
 import pytest
 import vt220
 from browsers import PATIENCE, until
-from recorded import RECORDINGS, SIZED, WIDENING, XTERM, cast, recordings, scripted, waits
+from recorded import RECORDINGS, SIZED, XTERM, cast, recordings, scripted, waits
 
 HERE = pathlib.Path(__file__).resolve().parent
 ROOT = HERE.parents[2]
@@ -748,18 +748,8 @@ def heights(page, path):
 
 
 def test_sizes(page, work):
-    """A page has the size of the recording's window, and follows its changes. An option chooses another size."""
-    lines = [[1, "o", "first"], [2, "r", "120x40"], [3, "o", "\033[40;118Hend"], [4, "r", "90x10"], [5, "o", "x"], [6, "r", "70x12"]]
-    data = "\n".join(map(json.dumps, [{"version": 2, "width": 100, "height": 30, "env": {"TERM": "vt220"}}, *lines])).encode() + b"\n"
-    page.go(work.page("sizes.cast", data).as_uri())
-    page.wait(READY)
-    terminal = vt220.Terminal("utf-8", rows=30, columns=100)
-    for time, code, text in lines:
-        terminal.feed(text.encode()) if code == "o" else terminal.resize(*map(int, reversed(text.split("x"))))
-        assert page.evaluate(f"page.player.go({time}), {SHOWN}") == terminal.text() and page.evaluate(FITS), f"the screen at {time}"
-    picture = page.evaluate("page.line.terminal.picture()")
-    assert picture == terminal.picture() and page.evaluate("page.line.duration") == 6 and page.evaluate(NOTED) == "", "the picture of a screen that was resized"
-    assert page.evaluate("page.player.go(3), page.search('end').then(() => page.player.spans.map((span) => [span.time, span.until, span.row, span.column]))") == [[3, 4, 40, 118]], "a search"
+    """An option chooses another size than that of the recording's window. lib/js/tests/test_player.py has windows that change."""
+    data = b'{"version": 2, "width": 100, "height": 30, "env": {"TERM": "vt220"}}\n[1, "o", "first"]\n[2, "r", "120x40"]\n'
     page.go(work.page("sizes.cast", data, "--size", "132x24").as_uri())
     page.wait(READY)
     assert page.evaluate("page.player.go(5), [page.line.terminal.rows, page.line.terminal.width]") == [24, 132] and "another size" in page.evaluate(NOTED), "an option chooses a size"
@@ -805,18 +795,6 @@ def carried(path):
 
 
 OTHERS = [pytest.param(*recording, id=f"{recording[0]}-{i}") for i, recording in enumerate(recordings())]
-
-
-@pytest.mark.parametrize("name, words, data, chunks, options", OTHERS)
-def test_readers(work, name, words, data, chunks, options):
-    """The page of each of these has its bytes and times, which lead to the screen that tmux shows."""
-    content, listed = carried(work.page("other", data, *words))
-    own = [chunk for chunk in chunks if chunk != WIDENING]
-    assert listed == [(micros, len(data)) for micros, data in own if data], "its chunks"
-    assert content == b"".join(data for _, data in own), "its bytes"
-    terminal = vt220.Terminal(**options)
-    terminal.feed(b"".join(data for _, data in chunks))
-    assert terminal.text() == (RECORDINGS / f"{name}.screen").read_text(), "its screen"
 
 
 def test_text(work):

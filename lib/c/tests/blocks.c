@@ -1,9 +1,9 @@
-/* blocks: inputs longer than a block of lib/c/vt220.c, with buffers of exactly the size that is passed, so that ASan sees a byte after one. */
+/* blocks: inputs in UTF-8 that are longer than a block of lib/c/vt220.c, with buffers of exactly the size that is passed, so that ASan sees a byte after one. */
 #include "check.h"
 
 enum { LEN = 40000, BLOCK = 16384 };
 
-static vt220 t = VT220_INIT, u = VT220_INIT;
+static vt220 t = VT220_INIT;
 static vt220_scratch s = VT220_INIT;
 static uint8_t reports[VT220_REPORT_LIMIT];
 static size_t written, logged;
@@ -21,10 +21,9 @@ static void bells(uint8_t *input) {
     for (size_t i = 0; i < sizeof rows / sizeof rows[0]; i++) {
         memset(input, 'x', LEN);
         input[rows[i][0]] = input[rows[i][1]] = '\a';
-        uint64_t before = vt220_bells(&t), before_in_utf8 = vt220_bells(&u);
+        uint64_t before = vt220_bells(&t);
         CHECK(vt220_feed(&t, input, LEN, reports, sizeof reports, &written) == LEN && vt220_bells(&t) - before == 2);
         CHECK(vt220_feed_log(&t, &s, input, LEN, reports, sizeof reports, &written, lines, 2 * LEN, &logged) == LEN && vt220_bells(&t) - before == 4);
-        CHECK(vt220_feed(&u, input, LEN, reports, sizeof reports, &written) == LEN && vt220_bells(&u) - before_in_utf8 == 2);
     }
     free(lines);
 }
@@ -45,25 +44,22 @@ static void replies(uint8_t *input) {
 
 /* The same for lines: a few scroll off in the first block, and many in the second. */
 static void lines(uint8_t *input) {
-    enum { SIZE = 30 * 81 };
+    enum { SIZE = VT220_UTF8_LINES_LIMIT + 30 * 81 };
     uint8_t *few = allocate(SIZE);
     memset(input, 'x', LEN);
     memset(input + 3000, 0, BLOCK - 3000);
     CHECK(vt220_reset(&t) == VT220_OK);
     size_t taken = vt220_feed_log(&t, &s, input, LEN, reports, sizeof reports, &written, few, SIZE, &logged);
-    CHECK(taken > BLOCK && taken < LEN && logged <= SIZE && SIZE - logged < VT220_ROW_TEXT_LIMIT && logged % 81 == 0);
+    CHECK(taken > BLOCK && taken < LEN && logged <= SIZE && SIZE - logged < VT220_UTF8_LINES_LIMIT && logged % 81 == 0);
     for (size_t i = 0; i < logged; i++) CHECK(few[i] == (i % 81 == 80 ? '\n' : 'x'));
     free(few);
 }
 
 int main(void) {
     uint8_t *input = allocate(LEN);
-    CHECK(vt220_open(&t) == VT220_OK && vt220_open_as(&u, VT220_UTF8, VT220_ROWS, 80) == VT220_OK && vt220_scratch_open(&s) == VT220_OK);
-    bells(input);
-    replies(input);
-    lines(input);
+    CHECK(vt220_open_as(&t, VT220_UTF8, VT220_ROWS, 80) == VT220_OK && vt220_scratch_open(&s) == VT220_OK);
+    bells(input), replies(input), lines(input);
     vt220_close(&t);
-    vt220_close(&u);
     vt220_scratch_close(&s);
     free(input);
     return finish("blocks");

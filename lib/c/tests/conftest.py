@@ -2,7 +2,6 @@
 
 
 def pytest_addoption(parser):
-    parser.addoption("--count", type=int, default=1000, help="how many random inputs are compared with the program")
     parser.addoption("--fuzz", type=int, default=10, help="how many seconds libFuzzer has")
 
 

@@ -2,7 +2,7 @@
 #include "rows.h"
 #include "vt220-keys.h"
 
-enum { SETTINGS = 16, DECCKM = 4, UNDEFINED = 0x2426, LAST_CHARACTER = 0x10FFFF };
+enum { SETTINGS = 16, UNDEFINED = 0x2426, LAST_CHARACTER = 0x10FFFF };
 
 /* The sixteen settings of the four modes that the keyboard reads, in the order of keys.txt. All other modes are set, too, if `others`. */
 static vt220_mode_set modes_of(unsigned setting, bool others) {
@@ -65,25 +65,6 @@ static void one_row(char **fields, size_t count) {
     }
     if (language == VT220_BYTES) check_sequence(&wanted, fields[2]);
     free(wanted.at);
-}
-
-static bool is_no_key_of_an_xterm(const char *key) {
-    outcome is = sent_in(VT220_XTERM, key, strlen(key), 0, false);
-    return is_error(&is, VT220_NO_KEY);
-}
-
-/* What is typed on a modern terminal for a host under TERM=xterm, and keys without a sequence with modifiers. */
-static void xterm_keys(void) {
-    static const char *const typed[] = {"\033[H", "\033OF", "\033[1~", "\033[15~", "\033[25~", "\033[1;2P"};
-    static const char *const sent[] = {"\033OH", "\033OF", "\033OH", "\033[15~", "\033[1;2P", "\033[1;2P"};
-    for (size_t i = 0; i < sizeof typed / sizeof typed[0]; i++) {
-        outcome is = sent_in(VT220_XTERM, typed[i], strlen(typed[i]), DECCKM, false);
-        check(has_sent(&is, (const uint8_t *)sent[i], strlen(sent[i])), typed[i] + 1, "a sequence of an xterm");
-    }
-    CHECK(is_no_key_of_an_xterm("S-KP5") && is_no_key_of_an_xterm("C-Return") && is_no_key_of_an_xterm("A-Tab") && is_no_key_of_an_xterm("S-Delete"));
-    CHECK(is_no_key_of_an_xterm("\033[1;5A") && is_no_key_of_an_xterm("C-S-\033[A") && is_no_key_of_an_xterm("X-Up") && is_no_key_of_an_xterm("S-"));
-    outcome by_control = sent_in(VT220_XTERM, "C-c", 3, 0, false), by_return = sent_in(VT220_XTERM, "Return", 6, 8, false);
-    CHECK(has_sent(&by_control, BYTES("\003")) && has_sent(&by_return, BYTES("\r\n")));
 }
 
 /* --- characters --- */
@@ -158,6 +139,11 @@ static void is_no_key(const char *text, size_t len) {
     check(is_error(&is, VT220_NO_KEY), "no key", text);
 }
 
+static void is_no_key_of_an_xterm(const char *text) {
+    outcome is = sent_in(VT220_XTERM, text, strlen(text), 0, false);
+    check(is_error(&is, VT220_NO_KEY), "no key of an xterm", text);
+}
+
 static void errors(void) {
     vt220_mode_set modes = modes_of(0, false);
     uint8_t out[VT220_KEY_LIMIT] = {0xA5};
@@ -180,18 +166,10 @@ static void errors(void) {
     is_no_key("\033[P", 3);
     is_no_key("\033[", 2);
     is_no_key("\033OH~", 4);
+    is_no_key_of_an_xterm("\033[1;5A"), is_no_key_of_an_xterm("C-S-\033[A"), is_no_key_of_an_xterm("X-Up"), is_no_key_of_an_xterm("S-");
     CHECK(strcmp(vt220_status_text(VT220_NO_KEY), "there is no such key") == 0);
     CHECK(strcmp(vt220_status_text(VT220_NO_CHARACTER), "no key sends this character") == 0);
     CHECK(vt220_key(VT220_BYTES, &modes, "Upside", 2, out, sizeof out, &written) == VT220_OK && written == 3);
-}
-
-/* Home and End as modern terminals send them. */
-static void home_and_end(void) {
-    static const char *const home[] = {"\033[H", "\033OH"}, *const end[] = {"\033[F", "\033OF"};
-    for (unsigned i = 0; i < 2; i++) {
-        outcome is = sent_by(home[i], 3, 0, false), other = sent_by(end[i], 3, 1, false);
-        CHECK(has_sent(&is, BYTES("\033[1~")) && has_sent(&other, BYTES("\x9B" "4~")));
-    }
 }
 
 static void lengths(void) {
@@ -209,12 +187,10 @@ static void lengths(void) {
 int main(int argc, char **argv) {
     if (argc != 2) return 2;
     CHECK(each_row(argv[1], one_row) > 6000);
-    xterm_keys();
     right_half();
     in_utf8();
     ascii();
     errors();
-    home_and_end();
     lengths();
     return finish("keys");
 }

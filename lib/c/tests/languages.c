@@ -1,8 +1,5 @@
-/* languages: what the rows can't show of UTF-8 and of TERM=xterm: closed handles, null pointers, buffers, statuses, characters one by one, and inputs of several
- * blocks of lib/c/vt220.c. The characters and cells are those of the tables of docs/SPECIFICATION.md and of Unicode. The rest is by hand from the header. */
+/* languages: what the rows can't show of UTF-8 and of TERM=xterm: closed handles, null pointers, buffers and statuses. It is by hand from the header. */
 #include "check.h"
-
-enum { LEN = 40000, BLOCK = 16384 };
 
 static vt220_scratch s = VT220_INIT;
 
@@ -25,49 +22,12 @@ static bool is_pending(const vt220 *t, const char *bytes) {
 
 /* --- characters --- */
 
+/* What no text of lib/tests has, and a null pointer. tests/model compares all characters by the other bindings. */
 static void shown(void) {
-    static const struct {
-        uint32_t character, glyph;
-        size_t cells;
-    } table[] = {
-        {'A', 'A', 1}, {' ', ' ', 1}, {'~', '~', 1}, {0, 0, 0}, {0x07, 0, 0}, {0x1B, 0, 0}, {0x7F, 0, 0}, {0x80, 0, 0}, {0x85, 0, 0}, {0x9B, 0, 0},
-        {0xA0, ' ', 1}, {0xAD, '-', 1}, {0xE9, 0xE9, 1}, {0x152, 0x152, 1}, {0x301, 0, 0}, {0x3C0, 0x3C0, 1}, {0x416, 0x2426, 1},
-        {0x1160, 0, 0}, {0x17D8, 0x2426, 2}, {0x200D, 0, 0}, {0x201C, '"', 1}, {0x2026, '.', 1}, {0x20AC, 0xA4, 1}, {0x2264, 0x2264, 1}, {0x2500, 0x2500, 1}, {0x2501, 0x2500, 1},
-        {0x166, 'T', 1}, {0x2588, '#', 1}, {0x2591, ':', 1}, {0x2592, 0x2592, 1}, {0x25C6, 0x25C6, 1}, {0x2426, 0x2426, 1}, {0x65E5, 0x2426, 2}, {0xFEFF, 0, 0}, {0xFF21, 'A', 2}, {0x1F600, 0x2426, 2},
-        {0xFFFD, 0x2426, 1}, {0xD800, 0x2426, 1}, {0xDFFF, 0x2426, 1}, {0x10FFFF, 0x2426, 1}, {0x110000, 0x2426, 1}, {UINT32_MAX, 0x2426, 1},
-    };
-    for (size_t i = 0; i < sizeof table / sizeof table[0]; i++) {
-        char name[32];
-        size_t cells = 7;
-        snprintf(name, sizeof name, "U+%04X", (unsigned)table[i].character);
-        check(vt220_shown(table[i].character, &cells) == table[i].glyph && cells == table[i].cells, name, "shown");
-        check(vt220_shown(table[i].character, NULL) == table[i].glyph, name, "shown");
-    }
-}
-
-/* Each character is shown by vt220_shown's glyph, in so many cells. */
-static void shown_as_fed(void) {
-    vt220 t = opened_as(VT220_UTF8, VT220_ROWS, 80, "");
-    for (uint32_t c = 0x20; c < 0x11000; c++) {
-        uint8_t bytes[8] = "\r\033[J";
-        vt220_cell row[VT220_COLUMNS];
-        vt220_cursor_place cursor;
-        size_t cells, len = 4;
-        if (c == 0x7F || (c >= 0xD800 && c <= 0xDFFF)) continue;
-        if (c < 0x80) bytes[len++] = (uint8_t)c;
-        else if (c < 0x800) bytes[len++] = (uint8_t)(0xC0 | c >> 6), bytes[len++] = (uint8_t)(0x80 | (c & 0x3F));
-        else if (c < 0x10000) bytes[len++] = (uint8_t)(0xE0 | c >> 12), bytes[len++] = (uint8_t)(0x80 | (c >> 6 & 0x3F)), bytes[len++] = (uint8_t)(0x80 | (c & 0x3F));
-        else bytes[len++] = (uint8_t)(0xF0 | c >> 18), bytes[len++] = (uint8_t)(0x80 | (c >> 12 & 0x3F)), bytes[len++] = (uint8_t)(0x80 | (c >> 6 & 0x3F)), bytes[len++] = (uint8_t)(0x80 | (c & 0x3F));
-        uint32_t glyph = vt220_shown(c, &cells);
-        bool is = vt220_feed(&t, bytes, len, NULL, 0, NULL) == len && vt220_row(&t, 1, row, VT220_COLUMNS) == 80 && vt220_cursor(&t, &cursor);
-        if (!is || cursor.col != 1 + cells || row[0].glyph != (cells == 0 ? ' ' : glyph) || (cells == 2 && row[1].glyph != ' ')) {
-            char name[32];
-            snprintf(name, sizeof name, "U+%04X", (unsigned)c);
-            check(false, name, "shown as fed");
-        }
-    }
-    vt220_close(&t);
-    CHECK(true);
+    static const uint32_t none[] = {0xD800, 0xDFFF, 0x110000, UINT32_MAX};
+    size_t cells = 7;
+    for (size_t i = 0; i < sizeof none / sizeof none[0]; i++) CHECK(vt220_shown(none[i], &cells) == 0x2426 && cells == 1);
+    CHECK(vt220_shown(0x65E5, &cells) == 0x2426 && cells == 2 && vt220_shown(0x301, &cells) == 0 && cells == 0 && vt220_shown(0x201C, NULL) == '"');
 }
 
 /* --- handles and buffers --- */
@@ -100,27 +60,17 @@ static void refusals(uint32_t language, size_t limit) {
     vt220_close(&t);
 }
 
-/* The statuses of the call, and what it writes. */
+/* A repaint of both pages. What is pending stays, and isn't written. */
 static void repaint_into(void) {
     static uint8_t out[VT220_XTERM_PAINT_LIMIT];
-    vt220 p = opened();
-    vt220 no_terminal = VT220_INIT;
+    vt220 p = opened_as(VT220_XTERM, VT220_ROWS, 80, "x\xE2\x80"), no_terminal = VT220_INIT;
     vt220_scratch no_scratch = VT220_INIT;
-    size_t len = 9, needed;
-    CHECK(vt220_repaint(&no_terminal, &s, out, sizeof out, &len) == VT220_CLOSED && len == 0);
-    len = 9;
+    size_t len = 9;
     CHECK(vt220_repaint_as(&no_terminal, VT220_XTERM, &s, out, sizeof out, &len) == VT220_CLOSED && len == 0);
     len = 9;
     CHECK(vt220_repaint(&p, &no_scratch, out, sizeof out, &len) == VT220_CLOSED && len == 0);
-    CHECK(vt220_repaint(&p, &s, NULL, 0, &needed) == VT220_ROOM && needed > 0);
-    memset(out, 7, sizeof out);
-    CHECK(vt220_repaint(&p, &s, out, needed - 1, &len) == VT220_ROOM && len == needed && out[0] == 7);
-    CHECK(vt220_repaint(&p, &s, out, needed, &len) == VT220_OK && len == needed && memcmp(out, "\033[?40h\033c", 8) == 0 && out[needed] == 7);
-    CHECK(vt220_feed(&p, BYTES("x\033["), NULL, 0, NULL) == 3);
-    len = 9;
-    CHECK(vt220_repaint(&p, &s, out, sizeof out, &len) == VT220_PARTIAL && len == 0);
-    CHECK(vt220_feed(&p, BYTES("\030\xE2\x80"), NULL, 0, NULL) == 3);
-    CHECK(vt220_repaint(&p, &s, out, sizeof out, &len) == VT220_OK && is_pending(&p, "\xE2\x80"));
+    CHECK(vt220_repaint(&p, &s, NULL, 0, &len) == VT220_ROOM && len > 0);
+    CHECK(vt220_repaint(&p, &s, out, len, &len) == VT220_OK && memcmp(out, "\033[?40h\033c", 8) == 0 && is_pending(&p, "\xE2\x80"));
     vt220_close(&p);
 }
 
@@ -183,76 +133,11 @@ static void copied_handles(void) {
     vt220_close(&q);
 }
 
-/* --- long inputs --- */
-
-/* Fills an input with text, sequences of xterm and of a VT220, characters beyond ASCII and bells. */
-static void fill(uint8_t *input) {
-    static const char *const parts[] = {"\033[?1049h", "\033[?1049l", "\033[?47h", "\033[?47l", "\033[3G", "\033[5d", "\033[2S", "\033[T", "\033[4b",
-                                        "\033[38;5;4mx", "\033[m", "\r\n", "\a", "é", "日", "\xE2\x80", "\033]0;\a", "\033[6n", "\033[!p", "\033[2;9r",
-                                        "\033[H", "\033[2J", "\033[s", "\033[u", "\033[Z", "\033[2I", "\033c", "abc", "def ghi", "jkl"};
-    enum { PARTS = sizeof parts / sizeof parts[0] };
-    uint64_t seed = 11;
-    for (size_t at = 0; at < LEN;) {
-        seed = seed * 6364136223846793005u + 1442695040888963407u;
-        const char *one = parts[(seed >> 33) % PARTS];
-        size_t len = strlen(one) < LEN - at ? strlen(one) : LEN - at;
-        memcpy(input + at, one, len);
-        at += len;
-    }
-}
-
-/* An input of several blocks leads to the same in any chunks and buffers, with its log and without it. */
-static void blocks(uint8_t *input) {
-    static const size_t chunks[] = {LEN, 1, 2, 7, 511, 513, BLOCK - 1, BLOCK, BLOCK + 1};
-    static const size_t sizes[][2] = {{399999, 0}, {VT220_REPORT_LIMIT, VT220_XTERM_LINES_LIMIT}, {5120, 200000}};
-    bytes replies = {0}, lines = {0};
-    vt220 whole = opened();
-    fill(input);
-    play(&whole, NULL, input, LEN, 399999, 0, &replies, NULL);
-    CHECK(vt220_bells(&whole) > 100 && replies.len > 100);
-    for (size_t i = 0; i < 3 * sizeof chunks / sizeof chunks[0]; i++) {
-        const size_t *size = sizes[i % 3], chunk = chunks[i / 3];
-        vt220 cut = opened(), like = opened();
-        bytes others = {0}, found = {0};
-        for (size_t at = 0; at < LEN; at += chunk) play(&cut, size[1] == 0 ? NULL : &s, input + at, LEN - at < chunk ? LEN - at : chunk, size[0], size[1], &others, &found);
-        if (size[1] != 0 && lines.at == NULL) append(&lines, found.at, found.len);
-        CHECK(size[1] == 0 || (found.len > 1000 && same_bytes(&lines, found.at, found.len)));
-        CHECK(same_bytes(&replies, others.at, others.len) && vt220_bells(&whole) == vt220_bells(&cut) && vt220_copy(&like, &whole) == VT220_OK);
-        for (int page = 0; page < 2; page++) {
-            CHECK(vt220_same_state(&like, &cut) && kept_by(&like).alternate == kept_by(&cut).alternate);
-            CHECK(vt220_feed(&like, BYTES("\030\033[?47h"), NULL, 0, NULL) == 7 && vt220_feed(&cut, BYTES("\030\033[?47h"), NULL, 0, NULL) == 7 && vt220_same_state(&like, &cut));
-            CHECK(vt220_feed(&like, BYTES("\033[?47l"), NULL, 0, NULL) == 6 && vt220_feed(&cut, BYTES("\033[?47l"), NULL, 0, NULL) == 6);
-        }
-        free(others.at), free(found.at);
-        vt220_close(&cut), vt220_close(&like);
-    }
-    free(replies.at), free(lines.at);
-    vt220_close(&whole);
-}
-
-/* A page of the main screen is kept over an input of several blocks, with bells at the ends of blocks. */
-static void page_over_blocks(uint8_t *input) {
-    static const char begin[] = "kept\033[?1049h", end[] = "\033[?1049l";
-    static const size_t bells[] = {100, BLOCK - 1, BLOCK, 2 * BLOCK - 1, 2 * BLOCK, LEN - sizeof end};
-    vt220 p = opened();
-    memset(input, 'x', LEN);
-    memcpy(input, begin, sizeof begin - 1);
-    memcpy(input + LEN - (sizeof end - 1), end, sizeof end - 1);
-    for (size_t i = 0; i < sizeof bells / sizeof bells[0]; i++) input[bells[i]] = '\a';
-    CHECK(vt220_feed(&p, input, LEN, NULL, 0, NULL) == LEN && shows(&p, "kept") && !kept_by(&p).alternate);
-    CHECK(vt220_bells(&p) == sizeof bells / sizeof bells[0]);
-    vt220_close(&p);
-}
-
 int main(void) {
-    uint8_t *input = (uint8_t *)malloc(LEN);
-    if (input == NULL) return 2;
     CHECK(vt220_scratch_open(&s) == VT220_OK);
-    shown(), shown_as_fed();
+    shown();
     refusals(VT220_UTF8, VT220_UTF8_LINES_LIMIT), refusals(VT220_XTERM, VT220_XTERM_LINES_LIMIT);
     repaint_into(), handles(), other_languages(), copied_handles();
-    blocks(input), page_over_blocks(input);
     vt220_scratch_close(&s);
-    free(input);
     return finish("languages");
 }

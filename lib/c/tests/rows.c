@@ -60,25 +60,6 @@ static void check_wanted(const row *r, const vt220 *t, const bytes *replies, con
     free(found.at);
 }
 
-/* Checks the text: what is shown, without SGR and without the spaces at the ends of its lines. */
-static void check_text(const vt220 *t) {
-    bytes plain = {0};
-    size_t len, end = 0;
-    CHECK(vt220_show(t, &s, out, sizeof out, &len) == VT220_OK);
-    for (size_t at = 0; at < len; at++) {
-        if (out[at] == '\033') {
-            while (out[at] != 'm') at++;
-            continue;
-        }
-        if (out[at] == '\n') plain.len = end;
-        append(&plain, out + at, 1);
-        if (out[at] != ' ') end = plain.len;
-    }
-    CHECK(vt220_text(t, &s, out, sizeof out, &len) == VT220_OK);
-    check_same(&plain, out, len, name, "the text");
-    free(plain.at);
-}
-
 /* Plays the row. Returns the terminal. Without a log the lines aren't compared. */
 static vt220 played(const row *r, long chunk, size_t size, bool with_log, size_t lines_size) {
     vt220 t = opened_as(r->language, r->rows, r->columns, "");
@@ -92,7 +73,6 @@ static vt220 played(const row *r, long chunk, size_t size, bool with_log, size_t
         lines = unhexed(strstr(r->wanted, " lines ") + strlen(" lines "));
     }
     if (r->wanted[0] != '-') check_wanted(r, &t, &replies, &lines);
-    check_text(&t);
     free(replies.at), free(lines.at);
     return t;
 }
@@ -108,13 +88,9 @@ static void same_pages(vt220 *p, vt220 *q) {
     }
 }
 
-/* What a terminal is rebuilt over: text and modes, wide pages, also without ?40, the alternate page, bracketed paste, left and right margins, and parts of
- * sequences and characters. */
-static const char *const others[] = {"\033[?3h\033[5mx\033[?6h\033(0\033[3;7r\0337", "", "main\033[?47h\033[?1048halt\xE2", "\033[?40h\033[?3hwide\0337\033[?47h\033[2",
-                                     "\033[?47h\033[?40h\033[?3h\033]0;x", "\033[?40h\033[?3hwide\0337\033[?40l\033[?2004h\033[?47hwide",
-                                     "\033[?40h\033[?3hwide\0337\033[?1049h\033[?3l\033[4hx", "\033[?40h\033[?3h\033[?40lwide\0337\033[?2004h\033[?47hwide\033]0;t",
-                                     "\033[?40h\033[?47h\033[5;9r\033[?6h\033[12", "a\033[?1049h\xE2\x82", "\033[3;9r\033[?69h\033[5;20s\033[?6h\033[2;16Hx\xE2\x82",
-                                     "\033[?69h\033[5;20s\033[2;20Hx\033[?25;6"};
+/* What a terminal is rebuilt over: text and modes, and under TERM=xterm pages, margins, and parts of sequences and characters. */
+static const char *const others[] = {"\033[?3h\033[5mx\033[?6h\033(0\033[3;7r\0337", "", "\033[?40h\033[?3hwide\0337\033[?2004h\033[?47hwide\033]0;t",
+                                     "\033[3;9r\033[?69h\033[5;20s\033[?6h\033[2;16Hx\xE2\x82"};
 
 /* Returns a terminal of the row that shows something else. */
 static vt220 begun(const row *r, const char *text) {

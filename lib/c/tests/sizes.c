@@ -1,5 +1,5 @@
-/* sizes: terminals of another size than a VT220's: opening, reading, the limits, writing, resizing, and the statuses of two sizes. The rows of lib/rows/sizes.txt
- * are played by rows.c. */
+/* sizes: terminals of another size than a VT220's: opening, reading, the limits, writing, and the statuses of two sizes. The rows of lib/rows/sizes.txt and
+ * updates.txt are played by rows.c and updates.c. */
 #include "check.h"
 
 enum { ROOM = 14000000 };
@@ -108,30 +108,6 @@ static void written_forms(void) {
     }
 }
 
-/* Updates: few bytes or many lead to the other state; without capacity nothing changes. */
-static void updates(void) {
-    static const size_t sizes[][2] = {{2, 2}, {2, 80}, {30, 40}, {24, 80}, {40, 120}, {255, 255}};
-    for (size_t i = 0; i < sizeof sizes / sizeof sizes[0]; i++) {
-        vt220 shown = opened_as(VT220_BYTES, sizes[i][0], sizes[i][1], "one"), to = opened_as(VT220_BYTES, sizes[i][0], sizes[i][1], ""), client = opened_as(VT220_BYTES, sizes[i][0], sizes[i][1], "one");
-        vt220 before = opened_as(VT220_BYTES, sizes[i][0], sizes[i][1], "");
-        CHECK(vt220_scratch_fit(&s, &to) == VT220_OK);
-        for (int turn = 0; turn < 3; turn++) {
-            if (turn == 0) vt220_feed(&to, BYTES("one two"), NULL, 0, NULL);
-            if (turn == 1) fill(&to);
-            if (turn == 2) vt220_feed(&to, BYTES("\033[2J\033[2;2Hx\033[2g\033H"), NULL, 0, NULL);
-            CHECK(vt220_copy(&before, &shown) == VT220_OK);
-            CHECK(vt220_update(&shown, &to, &s, out, 1, &written) == VT220_ROOM && vt220_same_state(&shown, &before));
-            CHECK(vt220_update(&shown, &to, &s, out, sizeof out, &written) == VT220_OK && written > 0 && written <= vt220_limit(&to, VT220_OF_UPDATE));
-            CHECK(vt220_feed(&client, out, written, NULL, 0, NULL) == written && vt220_same_state(&client, &to) && vt220_same_state(&shown, &to));
-            CHECK(vt220_update(&shown, &to, &s, out, 0, &written) == VT220_OK && written == 0);
-        }
-        vt220_close(&shown);
-        vt220_close(&to);
-        vt220_close(&client);
-        vt220_close(&before);
-    }
-}
-
 /* Two sizes: no call mixes them, and nothing changes. */
 static void two_sizes(void) {
     for (uint32_t language = VT220_BYTES; language <= VT220_XTERM; language += 2) {
@@ -153,9 +129,10 @@ static void two_sizes(void) {
         CHECK(vt220_draw(&c, &c, &s, NULL, 0, &written) == VT220_SIZE && vt220_update(&a, &a, &s, NULL, 0, &written) == VT220_SIZE && written == 0);
         CHECK(vt220_feed(&a, BYTES("\033["), NULL, 0, NULL) == 2 && vt220_update(&a, &a, &s, NULL, 0, &written) == VT220_SIZE && written == 0);
         CHECK(vt220_draw(&b, &b, &s, NULL, 0, &written) == VT220_OK && vt220_draw(NULL, &b, &s, NULL, 0, &written) == VT220_ROOM && written == len);
-        vt220_close(&a);
-        vt220_close(&b);
-        vt220_close(&c);
+        /* a terminal that was resized to 24 by 80 isn't a VT220's. A reset leaves the size, and a resize the bells */
+        CHECK(vt220_feed(&b, BYTES("\a"), NULL, 0, NULL) == 1 && vt220_resize(&b, 24, 80) == VT220_OK && vt220_bells(&b) == 1 && vt220_copy(&c, &b) == VT220_SIZE);
+        CHECK(vt220_resize(&c, 30, 90) == VT220_OK && vt220_reset(&c) == VT220_OK && vt220_rows(&c) == 30 && vt220_width(&c) == 90);
+        vt220_close(&a), vt220_close(&b), vt220_close(&c);
     }
 }
 
@@ -174,53 +151,6 @@ static void changes(void) {
     vt220_close(&b);
     CHECK(vt220_changes_of(&a, &b, 40, changed, 200) == VT220_CLOSED);
     vt220_close(&a);
-}
-
-static void row_is(const vt220 *t, size_t row, const char *text) {
-    CHECK(vt220_scratch_fit(&s, t) == VT220_OK && vt220_row_text(t, &s, row, out, sizeof out, &written) == VT220_OK);
-    CHECK(written == strlen(text) + 1 && memcmp(out, text, written - 1) == 0);
-}
-
-/* A resize: what stays, what leaves, and what is brought inside. */
-static void resizes(void) {
-    for (uint32_t language = VT220_BYTES; language <= VT220_XTERM; language++) {
-        vt220 t = opened_as(language, 24, 80, "\a\033[3;9r\033[1;1Htop\033[23;1Hlow\033[24;80Hx\0337\033[24;5Hlast\033[1");
-        vt220_cursor_place cursor;
-        vt220_margin_rows margins;
-        CHECK(vt220_resize(&t, 10, 100) == VT220_OK && vt220_rows(&t) == 10 && vt220_width(&t) == 100 && vt220_bells(&t) == 1);
-        row_is(&t, 9, "low");
-        CHECK(vt220_cursor(&t, &cursor) && cursor.row == 10 && cursor.col == 9 && !vt220_is_between(&t));
-        CHECK(vt220_margins(&t, &margins) && margins.top == 1 && margins.bottom == 10);
-        CHECK(vt220_feed(&t, BYTES("m\0338y"), NULL, 0, NULL) == 4 && vt220_is_between(&t));
-        char line[90];
-        snprintf(line, sizeof line, "    last%71sxy", "");
-        row_is(&t, 10, line);
-        CHECK(vt220_resize(&t, 24, 80) == VT220_OK && vt220_rows(&t) == 24 && vt220_width(&t) == 80);
-        row_is(&t, 24, "");
-        line[80] = '\0';
-        row_is(&t, 10, line);
-        vt220 same = opened_as(language, 24, 80, ""), of_a_vt220 = opened_as(language, 24, 80, "");
-        CHECK(vt220_resize(&same, 24, 80) == VT220_OK && vt220_copy(&same, &t) == VT220_OK && vt220_copy(&of_a_vt220, &t) == VT220_SIZE);
-        CHECK(vt220_feed(&same, BYTES("\033[?40h\033[?3h"), NULL, 0, NULL) == 11 && vt220_width(&same) == 80);
-        vt220_close(&same);
-        vt220_close(&of_a_vt220);
-        vt220_close(&t);
-    }
-}
-
-/* Under TERM=xterm both pages change their size, and what is pending stays. */
-static void resizes_pages(void) {
-    vt220 t = opened_as(VT220_XTERM, 24, 80, "main\033[?1049h\033[2Jother\033[?2004h\xC3");
-    CHECK(vt220_resize(&t, 30, 120) == VT220_OK && kept_by(&t).alternate && kept_by(&t).bracketed_paste && kept_by(&t).pending_len == 1);
-    CHECK(vt220_feed(&t, BYTES("\xA9\033[30;120Hx\033[?1049l\033[30;120Hy"), NULL, 0, NULL) == 29);
-    row_is(&t, 1, "main");
-    CHECK(vt220_rows(&t) == 30 && vt220_width(&t) == 120 && !kept_by(&t).alternate);
-    CHECK(vt220_repaint(&t, &s, out, sizeof out, &written) == VT220_OK && written <= vt220_limit(&t, VT220_OF_REPAINT));
-    vt220 u = opened_as(VT220_XTERM, 30, 120, "old");
-    CHECK(vt220_feed(&u, out, written, NULL, 0, NULL) == written && vt220_same_state(&t, &u) && vt220_copy(&t, &u) == VT220_OK);
-    CHECK(vt220_reset(&u) == VT220_OK && vt220_rows(&u) == 30 && vt220_width(&u) == 120);
-    vt220_close(&t);
-    vt220_close(&u);
 }
 
 /* A log's lines are those of the rows that scroll off, at any size. */
@@ -253,7 +183,7 @@ static void scratches(void) {
 }
 
 int main(void) {
-    open_and_read(), no_sizes(), limits(), written_forms(), updates(), two_sizes(), changes(), resizes(), resizes_pages(), logs(), scratches();
+    open_and_read(), no_sizes(), limits(), written_forms(), two_sizes(), changes(), logs(), scratches();
     vt220_scratch_close(&s);
     return finish("sizes");
 }

@@ -8,12 +8,12 @@ import pytest
 
 TOP = pathlib.Path(__file__).resolve().parents[3]
 HERE, T, ROWS, PROGRAM = "lib/c/tests", "out/tests", "out/tests/rows", "crates/vt220/out/vt220"
-PLAIN = "rows misuse fields calls sizes languages updates cuts keys readers stack processor refused many moved stays serve".split()
+PLAIN = "rows misuse fields calls sizes languages updates keys readers stack processor refused many moved stays serve".split()
 CHECKED = "rows misuse calls sizes languages blocks keys refused serve".split()
 GROUND = "rows misuse calls sizes languages keys refused".split()
 AARCH64 = "rows calls misuse fields keys readers refused stack many moved".split()
 ARGUMENTS = {"rows": [f"{ROWS}/screens.rows"], "keys": [f"{ROWS}/keys.rows"], "fields": [f"{ROWS}/fields.rows", f"{HERE}/abi.txt"],
-             "updates": [f"{ROWS}/updates.rows", f"{ROWS}/screens.rows"]}
+             "updates": [f"{ROWS}/updates.rows"]}
 VALGRIND = "valgrind -q --error-exitcode=99 --leak-check=full --show-leak-kinds=all --errors-for-leak-kinds=all".split()
 CROSS = "aarch64-linux-gnu-gcc -std=gnu11 -O2 -Wall -Wextra -Werror -Ilib/c/include".split()
 QEMU = "qemu-aarch64 -L /usr/aarch64-linux-gnu".split()
@@ -47,11 +47,6 @@ def test_fuzz(pytestconfig, tmp_path):
 @pytest.mark.parametrize("name", GROUND)
 def test_valgrind(check, name):
     check(*VALGRIND, f"{T}/{name}.gcc", *ARGUMENTS.get(name, []))
-
-
-@pytest.mark.parametrize("compiler, part, seed", [("gcc", 1, 1), ("clang", 10, 2)])
-def test_beside_the_program(check, pytestconfig, compiler, part, seed):
-    check(f"{T}/beside.{compiler}", PROGRAM, str(pytestconfig.getoption("--count") // part), str(seed))
 
 
 @compilers

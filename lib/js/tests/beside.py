@@ -6,42 +6,18 @@ import base64
 import glob
 import json
 import os
-import random
 import sys
 import zlib
 
 TOP = os.path.abspath(os.path.join(os.path.dirname(__file__), "../../.."))
 sys.dont_write_bytecode = True
 sys.path[:0] = [os.path.join(TOP, "lib/python"), os.path.join(TOP, "tests/bench")]
+sys.path.append(os.path.join(TOP, "tests/model"))
 os.environ.setdefault("VT220_LIBRARY", os.path.join(TOP, "out/libvt220.so"))
 import vt220  # noqa: E402
 
-# What inputs are made of: text, controls, whole and cut sequences, and any bytes.
-FINALS = b"ABCDEFGHIJKLMPSTXZ`abcdefghlmnqrsux@?"
-CONTROLS = [b"\r\n", b"\n", b"\r", b"\b", b"\t", b"\x07", b"\x0e", b"\x0f", b"\x1b7", b"\x1b8", b"\x1bD", b"\x1bM", b"\x1bE", b"\x1bH", b"\x1bN", b"\x1bO",
-            b"\x1b(0", b"\x1b(B", b"\x1b)A", b"\x1b*<", b"\x1b+K", b"\x1b~", b"\x1bn", b"\x1b=", b"\x1b>", b"\x1b G", b"\x1b F", b"\x1b#8", b"\x1bc",
-            b"\x1b[!p", b"\x1b[?3h", b"\x1b[?3l", b"\x1b[?6h", b"\x1b[?6l", b"\x1b[?7l", b"\x1b[?25l", b"\x1b[1\"q", b"\x1b[2\"q", b"\x1b[?2J", b"\x1bP", b"\x1b\\",
-            b"\x18", b"\x1a", b"\x9b", b"\x84", b"\x8d", b"\x05", b"\x1b[c", b"\x1b[>c", b"\x1b[?15n", b"\x1b[?25n", b"\x1b[?26n", b"\x1b[61\"p", b"\x1b[62;1\"p", b"\x1b[?J",
-            b"\x1b[?1K", b"\x1b[?1049h", b"\x1b[?1049l", b"\x1b[?40h", b"\x1b[4h", b"\x1b[20h", b"\x1b[?5h", b"\x1bP1;2|17/7a\x1b\\", b"\x1b]0;title\x07", b"\x1b[?9999999999;00001;;h"]
-NUMBERS = [0, 1, 2, 3, 5, 8, 12, 23, 24, 25, 40, 79, 80, 131, 132, 133, 255, 256, 65535, 65536]
 # How many of the random inputs are long: a long chunk is played by other code than a short one.
 LONG = 60
-
-
-def part(source):
-    kind = source.randrange(9)
-    if kind < 3:
-        return bytes(source.choice(b"abc XYZ~_|{}0123456789") for _ in range(source.randrange(1, 60)))
-    if kind == 3:
-        return source.choice(CONTROLS)
-    if kind == 4:
-        return bytes(source.randrange(256) for _ in range(source.randrange(1, 12)))
-    if kind == 5:
-        return b"\x1b[%dm" % source.choice([0, 1, 4, 5, 7, 22, 24, 25, 27])
-    if kind == 6:
-        return "".join(chr(source.choice([source.randrange(0xA0, 0x180), source.randrange(0x2000, 0x2800), 0x4E16, 0x301, 0x1F600])) for _ in range(source.randrange(1, 9))).encode()
-    numbers = ";".join(str(source.choice(NUMBERS)) for _ in range(source.choice([0, 1, 1, 2, 2, 3, 20])))
-    return b"\x1b[" + source.choice([b"", b"", b"", b"?"]) + numbers.encode() + bytes([source.choice(FINALS)])
 
 
 def charts():
@@ -75,16 +51,17 @@ def characters():
     return ["".join(map(chr, range(start, min(start + 0x400, 0xD800 if start < 0xD800 else 0x110000)))).encode() for start in starts]
 
 
-def inputs(count, seed=1):
-    """Returns inputs: the recordings of bench, its workloads, all characters of all sets and of UTF-8, all functions, and random ones."""
+def inputs(count):
+    """Returns inputs: the recordings of bench, its workloads, all characters of all sets and of UTF-8, all functions, and those of tests/model."""
     import workloads
+    from inputs import Chance, XtermChance
 
-    source = random.Random(seed)
     large = [open(path, "rb").read() for path in sorted(glob.glob(os.path.join(TOP, "tests/bench/recordings/*.raw")))]
     large += [prefix + workloads.make(name, 30000) for prefix in (b"", b"\x1b[?3h") for name in workloads.WORKLOADS]
     large += charts() + functions() + cut() + characters()
-    large += [b"".join(part(source) for _ in range(1200)) for _ in range(LONG)]
-    return large + [b"".join(part(source) for _ in range(source.randrange(1, 90))) for _ in range(count - len(large))]
+    generated = [(Chance, XtermChance)[seed % 2](seed).input() for seed in range(max(count, 100 * LONG))]
+    large += [b"".join(generated[at::LONG]) for at in range(LONG)]
+    return large + generated[: count - len(large)]
 
 
 def hash_of(parts):
@@ -97,11 +74,11 @@ def number(value):
 
 
 def described(terminal, last):
+    """Returns everything that is read of a terminal, as text. `last` is an earlier one."""
     parts = [terminal.cursor(), terminal.margins(), terminal.modes(), terminal.brush(), terminal.sets(), terminal.saved()]
     parts = [list(map(int, each)) for each in parts] + [terminal.stops(), [terminal.bells(), terminal.width()]]
     flat = " ".join(",".join(map(str, each)) for each in parts)
-    rows = range(1, 25)
-    changed = [row for row in rows if terminal.width() != last.width() or last.changed(terminal, row)]
+    changed = [row for row in range(1, 25) if terminal.width() != last.width() or last.changed(terminal, row)]
     marks = []
     for row in (1, 12, 24):
         columns = set(last.changed(terminal, row))
@@ -110,14 +87,19 @@ def described(terminal, last):
     return "\n".join([terminal.text(), terminal.show(), terminal.picture(), flat, terminal.held(), ",".join(map(str, changed)), *marks, cells])
 
 
-def in_utf8(data, options):
-    """Returns what a terminal of UTF-8 makes of an input, the second half on a copy: replies, lines, and both pages."""
+def made_of(data, options):
+    """Returns what a terminal makes of an input, the second half on a copy: replies, lines, all that is read, and what is written, of both pages."""
     terminal, half = vt220.Terminal(**options), len(data) >> 1
     replies, copied = terminal.feed(data[:half]), terminal.copy()
     more, lines = copied.feed_log(data[half:])
-    shown, pending = copied.text(), copied.pending()
-    copied.feed(b"\x18\x1b[?47l" if copied.alternate() else b"\x18\x1b[?47h")
-    return [replies, more, lines[:-1].encode(), shown.encode(), pending, copied.repaint(), copied.draw(terminal)]
+    parts = [replies, more, lines[:-1].encode(), described(copied, terminal).encode(), copied.pending(), bytes([copied.same_state(terminal)])]
+    for each in (terminal, copied):
+        each.feed(b"\x18")
+    parts += [copied.repaint(), copied.repaint("vt220"), copied.draw(), copied.draw(terminal)]
+    if copied.terminal == "vt220":
+        return [*parts, terminal.update(copied)]
+    copied.feed(b"\x1b[?47l" if copied.alternate() else b"\x1b[?47h")
+    return [*parts, copied.text().encode()]
 
 
 def typed(data, modes):
@@ -132,25 +114,11 @@ def typed(data, modes):
 
 
 def hashes(data):
-    last, made = vt220.Terminal(), []
+    made = []
     for each in data:
-        terminal, twin, half = vt220.Terminal(), vt220.Terminal(), len(each) >> 1
-        replies = terminal.feed(each[:half])
-        halfway = terminal.copy()
-        more, lines = terminal.feed_log(each[half:])
-        twin.feed(each[:-1])
-        alike = [terminal.same_state(twin), halfway.same_state(terminal), last.same_state(terminal)]
-        twin.feed(each[-1:])
-        alike.append(terminal.same_state(twin))
-        text = described(terminal, last)
-        for one in (terminal, halfway):
-            one.feed(b"\x18")
-        shown = vt220.Terminal()
-        shown.copy_from(last)
-        ours = [bytes(alike), replies, more, lines[:-1].encode(), text.encode(), terminal.repaint(), shown.update(terminal), halfway.update(terminal), terminal.draw(), terminal.draw(last)]
-        theirs = in_utf8(each, {"encoding": "utf-8"}) + in_utf8(each, {"terminal": "xterm"})
-        made.append(hash_of([*ours, *theirs, vt220.shown(each.decode("utf-8", "replace")).encode(), typed(each, terminal.modes())]))
-        last = terminal
+        parts = [part for options in ({}, {"encoding": "utf-8"}, {"terminal": "xterm"}) for part in made_of(each, options)]
+        modes = vt220.Modes(*(bool(len(each) >> bit & 1) for bit in range(13)))
+        made.append(hash_of([*parts, vt220.shown(each.decode("utf-8", "replace")).encode(), typed(each, modes)]))
     return made
 
 

@@ -1,4 +1,4 @@
-// Tests each call of the package, its errors, and each export of the module.
+// Tests each call of the package, its errors, and what the module has.
 import assert from "node:assert/strict";
 import { test } from "node:test";
 import { vt220, wasm } from "./package.mjs";
@@ -159,39 +159,6 @@ test("the module", async () => {
   for (const source of ["vt220.wasm", 5, null]) assert((await refused(source)).startsWith("TypeError: load() takes the bytes of vt220.wasm"), `a load of ${source}`);
 });
 
-/** The exports that take closed handles, which the package never passes: their arguments, and what they return. t and x are closed, and pages is under TERM=xterm. */
-const CLOSED = [
-  ["text", ["t"], 3], ["show", ["t"], 3], ["picture", ["t"], 3], ["repaint", ["t", 0], 3], ["repaint", ["x", 2], 3], ["repaint", ["open", 2], 10], ["repaint", ["open", 4], 12], ["row_text", ["t", 1], 3], ["reset", ["t"], 3], ["update", ["t", "open"], 3],
-  ["draw", [0, "t"], 3], ["draw", ["t", "open"], 3], ["draw", ["open", "t"], 3], ["draw", ["open", "open"], 0], ["draw", [0, "pages"], 0],
-  ["update", ["open", "t"], 3], ["copy", ["t", "open"], 3], ["copy", ["open", "t"], 3], ["row_changes", ["t", "open", 1], 3], ["row_changes", ["open", "t", 1], 3],
-  ["changed_rows", ["t", "open"], 24], ["changed_rows", ["open", "t"], 0], ["changed_rows", ["t", "t"], 0], ["width", ["t"], 0], ["rows", ["t"], 0], ["stops", ["t"], 0], ["resize", ["t", 24, 80], 3], ["resize", ["t", 25, 80], 3], ["row", ["t", 1], 0], ["bells", ["t"], 0], ["is_between", ["t"], 0],
-  ["held_kind", ["t"], 0], ["same_state", ["t", "open"], 0], ["same_state", ["open", "t"], 0], ["same_state", ["t", "t"], 0], ["feed", ["t", 0, 1], 0], ["feed_log", ["t", 0, 1], 0],
-  ["feed", ["x", 0, 1], 0], ["feed_log", ["x", 0, 1], 0], ["copy", ["x", "pages"], 3], ["copy", ["pages", "x"], 3], ["copy", ["pages", "open"], 10],
-  ["copy", ["pages", "pages"], 0], ["copy", ["open", "open"], 0], ["update", ["pages", "open"], 10], ["row_text", ["open", 0], 7], ["row_text", ["open", 25], 7], ["row", ["open", 0], 0],
-  ["row", ["open", 25], 0], ["row", ["open", 24], 80], ["row_changes", ["open", "open", 0], 7], ["row_changes", ["open", "open", 25], 7], ["changed_rows", ["open", "open"], 0], ["start", [], 2],
-];
-const PARTS = ["cursor", "margins", "modes", "brush", "sets", "saved", "stops", "language"];
-
-test("exports with closed handles, and before the scratch buffer is opened", async () => {
-  const { exports } = await WebAssembly.instantiate(await WebAssembly.compile(wasm));
-  const [t, x, open, pages] = [0, 2, 0, 2].map((language) => exports.open(language, 24, 80)), at = { t, x, open, pages };
-  assert.equal(exports.open(4, 24, 80), 0, "no such language");
-  for (const [rows, columns] of [[1, 80], [256, 80], [24, 1], [24, 256]]) assert.equal(exports.open(0, rows, columns), 0, "no such size");
-  for (const name of ["text", "show", "picture", "repaint", "row_text", "update", "draw", "feed_log"])
-    for (const one of name === "update" ? [open] : [open, pages])
-      assert(exports[name](one, name === "update" || name === "draw" ? t : 1, 1, 2) === (name.startsWith("feed") ? 0 : 3) && exports.written() === 0, `before the start: ${name}`);
-  assert.equal(exports.start(), 0, "the start");
-  for (const name of PARTS) exports[name](open);
-  exports.close(t);
-  exports.close(x);
-  for (const [name, words, wanted] of CLOSED) assert.equal(exports[name](...words.map((word) => at[word] ?? word)), wanted, `the export ${name} of ${words}`);
-  const part = () => json(Array.from(new Uint32Array(exports.memory.buffer, exports.part(), 255)));
-  exports.stops(open);
-  const before = part();
-  for (const name of PARTS) exports[name](t);
-  assert.equal(part(), before, "the parts of a closed terminal");
-});
-
 // Nothing is changed then, and the size that is needed is known.
 test("buffers that are too small", () => {
   const t = new Terminal(core), shown = new Terminal(core), plain = new Terminal(core);
@@ -237,7 +204,7 @@ function atSize(options) {
 }
 
 test("a change of the size", () => {
-  const t = new Terminal(core), other = new Terminal(core), session = new Terminal(core, { terminal: "xterm" });
+  const t = new Terminal(core), other = new Terminal(core);
   t.feed(bytes("\x07first\x1b[24;1Hlast"));
   t.resize(10, 100);
   assert(t.rows === 10 && t.width === 100 && t.rowText(10) === "last" && t.rowText(1) === "" && t.bells === 1 && json(t.margins) === json({ top: 1, bottom: 10 }), "a resize");
@@ -249,14 +216,7 @@ test("a change of the size", () => {
   t.feed(bytes("\x1b[?3h"));
   other.feed(bytes("\x1b[?3h"));
   assert(t.width === 80 && other.width === 132 && other.copy().sameState(other), "DECCOLM");
-  session.feed(bytes("main\x1b[?1049h\x1b[Hother\x1b[38;5\xe2"));
-  session.resize(30, 120);
-  const copied = session.copy();
-  for (const each of [session, copied]) {
-    each.feed(bytes("m\x1b[30;120Hx\x1b[?1049l"));
-    assert(each.text().startsWith("main\n") && each.rows === 30 && each.width === 120 && !each.alternate, "a resize of pages, inside of a sequence");
-  }
-  for (const each of [t, other, session, copied]) each.close();
+  for (const each of [t, other]) each.close();
 });
 
 for (const terminal of ["vt220", "xterm"])

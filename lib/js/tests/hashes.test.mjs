@@ -20,6 +20,7 @@ function hash(parts) {
   return `${~crc >>> 0}.${b * 65536 + a}`;
 }
 
+const MODES = Object.keys(new vt220.Terminal(await vt220.load()).modes);
 const encoder = new TextEncoder(), decoder = new TextDecoder("utf-8", { ignoreBOM: true });
 const words = (object) => Object.values(object).map((value) => (typeof value === "string" ? value.charCodeAt(0) : Number(value)));
 
@@ -32,16 +33,20 @@ function described(terminal, last) {
   return [terminal.text(), terminal.show(), terminal.picture(), parts.join(" "), held, last.changedRows(terminal).join(), ...marks, cells].join("\n");
 }
 
-/** Returns what a terminal of UTF-8 makes of an input, the second half on a copy: replies, lines, and both pages. */
-function inUtf8(Terminal, core, input, options) {
-  const terminal = new Terminal(core, options), copied = new Terminal(core, options), half = input.length >> 1;
-  const replies = terminal.feed(input.subarray(0, half));
-  copied.copyFrom(terminal);
-  const logged = copied.feedLog(input.subarray(half)), shown = copied.text(), pending = copied.pending;
-  copied.feed(encoder.encode(copied.alternate ? "\x18\x1b[?47l" : "\x18\x1b[?47h"));
-  const repaint = copied.repaint(), drawing = copied.draw(terminal);
+/** Returns what a terminal makes of an input, the second half on a copy: replies, lines, all that is read, and what is written, of both pages. */
+function made(core, input, options) {
+  const terminal = new vt220.Terminal(core, options), half = input.length >> 1;
+  const replies = terminal.feed(input.subarray(0, half)), copied = terminal.copy(), logged = copied.feedLog(input.subarray(half));
+  const parts = [replies, logged.replies, encoder.encode(logged.lines.join("\n")), encoder.encode(described(copied, terminal)), copied.pending, [Number(copied.sameState(terminal))]];
+  for (const each of [terminal, copied]) each.feed(Uint8Array.of(0x18));
+  parts.push(copied.repaint(), copied.repaint("vt220"), copied.draw(), copied.draw(terminal));
+  if (copied.terminal === "vt220") parts.push(terminal.update(copied));
+  else {
+    copied.feed(encoder.encode(copied.alternate ? "\x1b[?47l" : "\x1b[?47h"));
+    parts.push(encoder.encode(copied.text()));
+  }
   for (const each of [terminal, copied]) each.close();
-  return [replies, logged.replies, encoder.encode(logged.lines.join("\n")), encoder.encode(shown), pending, repaint, drawing];
+  return parts;
 }
 
 /** Returns what is read of an input as keys: the lengths of the first key in its first bytes, and what its first characters send. */
@@ -62,36 +67,18 @@ function resize(core, i) {
   core.calls.test_sizes(reports, lines, 2 ** 32 - 1);
 }
 
-/** Yields the hash of each input. */
-function* hashes({ Terminal }, core, inputs) {
-  let last = new Terminal(core);
-  for (const [i, input] of inputs.entries()) {
-    resize(core, i);
-    const terminal = new Terminal(core), half = input.length >> 1;
-    const replies = terminal.feed(input.subarray(0, half)), halfway = new Terminal(core);
-    halfway.copyFrom(terminal);
-    const logged = terminal.feedLog(input.subarray(half)), twin = new Terminal(core);
-    twin.feed(input.subarray(0, -1));
-    const alike = [twin, halfway, last].map((other) => terminal.sameState(other));
-    twin.feed(input.subarray(-1));
-    alike.push(terminal.sameState(twin));
-    const text = described(terminal, last);
-    for (const each of [terminal, halfway]) each.feed(Uint8Array.of(0x18));
-    const shown = new Terminal(core);
-    shown.copyFrom(last);
-    const repaint = terminal.repaint(), update = shown.update(terminal), near = halfway.update(terminal), drawings = [terminal.draw(), terminal.draw(last)];
-    for (const each of [shown, halfway, twin]) each.close();
-    last.close();
-    last = terminal;
-    const ours = [alike.map(Number), replies, logged.replies, encoder.encode(logged.lines.join("\n")), encoder.encode(text), repaint, update, near, ...drawings];
-    const theirs = [{ encoding: "utf-8" }, { terminal: "xterm" }].flatMap((options) => inUtf8(Terminal, core, input, options));
-    yield hash([...ours, ...theirs, encoder.encode(core.shown(decoder.decode(input))), typed(core, input, terminal.modes)]);
-  }
-  resize(core, 1);
+/** Returns the hash of an input. */
+function hashOf(core, input) {
+  const parts = [{}, { encoding: "utf-8" }, { terminal: "xterm" }].flatMap((options) => made(core, input, options));
+  const modes = Object.fromEntries(MODES.map((name, bit) => [name, (input.length >> bit) % 2 === 1]));
+  return hash([...parts, encoder.encode(core.shown(decoder.decode(input))), typed(core, input, modes)]);
 }
 
 test("inputs, beside the library for C", async () => {
-  const all = await inputs(), mine = hashes(vt220, await vt220.load(), all.map(([input]) => Uint8Array.from(atob(input), (c) => c.charCodeAt(0))));
-  for (const [input, theirs] of all) assert.equal(mine.next().value, theirs, input.slice(0, 200));
-  assert(mine.next().done);
+  const core = await vt220.load();
+  for (const [i, [input, theirs]] of (await inputs()).entries()) {
+    resize(core, i);
+    assert.equal(hashOf(core, Uint8Array.from(atob(input), (c) => c.charCodeAt(0))), theirs, input.slice(0, 200));
+  }
+  resize(core, 1);
 });

@@ -3,8 +3,8 @@ const script = vt220;
 export { script as vt220 };
 export const wasm = new Uint8Array(await (await fetch("/vt220/vt220.wasm")).arrayBuffer());
 
-/** Returns the text of a file in lib/rows/. */
-export const rows = async (name) => (await fetch(`/rows/${name}.txt`)).text();
+/** Returns the fields of each row of a file that lib/rows/flat.py wrote. */
+export const rows = async (name) => (await (await fetch(`/rows/${name}.rows`)).text()).split("\n").slice(0, -1).map((line) => line.split("\t"));
 
 /** Returns inputs with hashes of what the library for C makes of them. */
 export const inputs = async () => (await fetch("/hashes.json")).json();

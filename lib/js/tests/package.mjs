@@ -9,8 +9,11 @@ export const address = new URL("src/node.js", place).href;
 export const vt220 = { ...(await import(address)), ...(await import(new URL("src/timeline.js", place))) };
 export const wasm = await readFile(new URL("vt220.wasm", place));
 
-/** Returns the text of a file in lib/rows/. */
-export const rows = (name) => readFile(new URL(`../../rows/${name}.txt`, import.meta.url), "utf8");
+/** Returns the fields of each row of a file that lib/rows/flat.py writes. */
+export async function rows(name) {
+  execFileSync(fileURLToPath(new URL("../../rows/flat.py", import.meta.url)));
+  return (await readFile(new URL(`../../../out/tests/rows/${name}.rows`, import.meta.url), "utf8")).split("\n").slice(0, -1).map((line) => line.split("\t"));
+}
 
 /** Returns COUNT inputs, each with the hash of what the library for C makes of it. HASHES is a file that has them already. */
 export async function inputs() {

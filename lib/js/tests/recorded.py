@@ -72,7 +72,7 @@ def recordings():
     """Returns the recordings by other programs: the name, the words of the tool, the bytes, the chunks, and the terminal's options."""
     first, wide = by_asciinema("asciinema.cast"), {"script": [], "script-both": [WIDENING]}
     rows = [("asciinema", "asciinema.cast", [], first, XTERM), ("asciinema-wide", "asciinema-wide.cast", [], by_asciinema("asciinema-wide.cast"), {**XTERM, **SIZED}),
-            ("ttyrec", "ttyrec.ttyrec", [], by_ttyrec("ttyrec.ttyrec"), {}), ("termrec", "termrec.ttyrec", [], by_ttyrec("termrec.ttyrec"), {}),
+            ("ttyrec", "ttyrec.ttyrec", [], by_ttyrec("ttyrec.ttyrec"), {}),
             *((name, f"{name}.typescript", ["--timing", RECORDINGS / f"{name}.timing"], wide[name] + by_script(name), {}) for name in wide)]
     made = [(name, words, (RECORDINGS / file).read_bytes(), chunks, options) for name, file, words, chunks, options in rows]
     return made + [("asciinema", [], version_1(first), first, XTERM), ("asciinema", [], cast(first, 3, NARROW), first, XTERM)]

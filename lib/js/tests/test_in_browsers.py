@@ -4,6 +4,7 @@ import json
 import os
 import pathlib
 import re
+import subprocess
 
 import beside
 import pytest
@@ -37,7 +38,7 @@ def hashes():
 def tests(server):
     """The address of a page, next to which are the tests."""
     (server.place / "tests").symlink_to(HERE)
-    (server.place / "rows").symlink_to(HERE.parents[1] / "rows")
+    subprocess.run([HERE.parents[1] / "rows/flat.py", server.place / "rows"], check=True)
     (server.place / "tests.html").write_text(PAGE)
     return server.url + "tests.html"
 

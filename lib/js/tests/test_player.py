@@ -29,6 +29,12 @@ def spoken(*texts):
     return b"".join(texts), [(i * 10**6, len(text)) for i, text in enumerate(texts)]
 
 
+def given(page, source, told="ready"):
+    """Gives the player `a` a recording, and waits until it tells of it."""
+    page.evaluate(f"events.length = 0, see('a'), (host.src = {source}, true)")
+    page.wait(f"events.some(([where, what]) => where === 'a' && what === '{told}') && see('a')")
+
+
 def test_several(page, server):
     """Ten players have one module, which is fetched and compiled once."""
     texts = [f"recording {i}".encode() for i in range(10)]
@@ -85,9 +91,7 @@ def test_sources(page, server):
     assert page.evaluate("see('none') && root.getElementById('said').textContent").startswith("The recording can't be fetched."), "an address that leads nowhere"
     for made in (f"new Blob([{json.dumps(text)}])", f"new TextEncoder().encode({json.dumps(text)})", f"new TextEncoder().encode({json.dumps(text)}).buffer",
                  "{ bytes: new TextEncoder().encode('made of a file'), times: [0], ends: [14] }"):
-        page.evaluate("events.length = 0, see('a')")
-        page.evaluate(f"(host.src = {made}, true)")
-        page.wait("ready('a')")
+        given(page, made)
         assert page.evaluate(SHOWN).startswith("made of a file\n"), f"a recording that is {made[:30]}"
     page.evaluate("host.remove()")
     assert page.evaluate("host.view") is None, "an element that is removed"
@@ -206,15 +210,12 @@ def test_given(page, server):
     assert page.evaluate(CHUNKS) == [[500000, 3], [2500000, 6]] and page.evaluate("view.options.markers") == [[1.5, "here"]], "a recording inside of the element"
     as_text = json.dumps(text)
     for made_by in (f"new Blob([{as_text}])", f"new TextEncoder().encode({as_text})", f"new TextEncoder().encode({as_text}).buffer"):
-        page.evaluate(f"events.length = 0, see('a'), (host.src = {made_by}, true)")
-        page.wait("ready('a') && see('a')")
+        given(page, made_by)
         assert page.evaluate(CHUNKS) == [[500000, 3], [2500000, 6]], f"a recording that is {made_by[:30]}"
-    page.evaluate(f"host.timing = new Blob(['0 3\\n2 3\\n']), events.length = 0, (host.src = new Blob([{json.dumps(scripted(made).decode())}]), true)")
-    page.wait("ready('a') && see('a')")
+    given(page, f"(host.timing = new Blob(['0 3\\n2 3\\n']), new Blob([{json.dumps(scripted(made).decode())}]))")
     assert page.evaluate(CHUNKS) == [[0, 3], [2000000, 6]], f"a timing file that is given: {page.evaluate(CHUNKS)}"
     data = "café ".encode() * 30
-    page.evaluate(f"host.timing = null, events.length = 0, (host.src = Uint8Array.from({list(data)}), true)")
-    page.wait("ready('a') && see('a')")
+    given(page, f"(host.timing = null, Uint8Array.from({list(data)}))")
     wanted = [(50000 * (i + 1), data[48 * i : 48 * i + 48]) for i in range(-(-len(data) // 48))]
     assert page.evaluate(CHUNKS) == ended(wanted), "bytes without times are played as over a line of 9600 baud"
     notes = page.evaluate(f"host.loaded.then(() => host.noted).then(() => {NOTES})")
@@ -226,17 +227,14 @@ def test_given(page, server):
     assert notes[1:] == ["Its bytes look like UTF-8, which a VT220 doesn't read."], f"notes: {notes}"
     page.evaluate("host.removeAttribute('encoding')")
     broken = cast(made, 2) + b'[9, "o", 7]\n'
-    page.evaluate(f"events.length = 0, (host.src = Uint8Array.from({list(broken)}), true)")
-    page.wait("ready('a') && see('a')")
+    given(page, f"Uint8Array.from({list(broken)})")
     assert page.evaluate(NOTES)[-1] == f"It breaks its format at byte {len(cast(made, 2))}. What follows isn't shown.", f"a recording that breaks its format: {page.evaluate(NOTES)}"
     # Events that are shorter than most: the reader needs more room for them than it takes first.
     small = b'{"version": 2, "width": 80, "height": 24}\n' + b'[0,"o","."]\n' * 5000
-    page.evaluate(f"events.length = 0, (host.src = Uint8Array.from({list(small)}), true)")
-    page.wait("ready('a') && see('a')")
+    given(page, f"Uint8Array.from({list(small)})")
     assert page.evaluate("[view.line.chunks, view.line.length]") == [5000, 5000], "many small events"
     for bad, reason in ((b"\x1f\x8b\x08\0\0\0", "it is compressed: decompress it first"), (b'{"version": 9}\n[0.5, "o", "x"]\n', "it is by asciinema, of version 9, which isn't known")):
-        page.evaluate(f"events.length = 0, (host.src = Uint8Array.from({list(bad)}), true)")
-        page.wait("events.some(([where, what]) => where === 'a' && what === 'error')")
+        given(page, f"Uint8Array.from({list(bad)})", "error")
         assert page.evaluate("root.getElementById('said').textContent") == f"The recording can't be read. ({reason})", f"refused: {page.evaluate('root.getElementById(`said`).textContent')}"
 
 

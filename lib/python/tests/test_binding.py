@@ -137,28 +137,6 @@ def test_feed_refuses_what_is_not_bytes(wrong):
     assert terminal.text() == "\n" * 24
 
 
-# What a terminal may have played before: nothing, a screen, a mode, other sets, a part of a sequence, and a part of a character.
-BEFORE = [b"", b"x" * 2000, b"\033[?6h\033[4h\033[3;9r", b"\033(0\016\033[?3h", b"\033[5;", b"\033P1$q", b"caf\xc3"]
-
-
-@pytest.mark.parametrize("data", [b"", b"\033[?3h\033[3;130Hwide", b"\033[7mtext\033[5;9r\033[?6h\0337\033[3g", b"\033[4h\033)0\016q"])
-def test_a_repaint_is_for_terminals_that_read_a_vt220s_bytes_or_utf_8(data):
-    """lib/c/include/vt220.h has it: the bytes of vt220_repaint_as are fed to a VT220, and those of vt220_repaint to a terminal of the language."""
-    source, xterm = vt220.Terminal(), vt220.Terminal(terminal="xterm")
-    source.feed(data)
-    xterm.feed(b"\033[?40h" + data + b"\033[?47hother page")
-    for before in BEFORE:
-        for encoding in vt220.ENCODINGS:
-            for made, wanted in ((source.repaint(), source), (xterm.repaint("vt220"), xterm)):
-                with vt220.Terminal(encoding) as other:
-                    other.feed(before)
-                    assert other.feed(made) == b"" and other.same_state(wanted) and other.pending() == b""
-        with vt220.Terminal(terminal="xterm") as other:
-            other.feed(before)
-            other.feed(xterm.repaint())
-            assert other.same_state(xterm) and other.alternate() and other.repaint() == xterm.repaint()
-
-
 def test_a_repaint_is_not_for_terminals_of_term_xterm():
     """?3 has an effect under TERM=xterm only after ?40 (docs/SPECIFICATION.md, 'Under TERM=xterm')."""
     source, xterm = vt220.Terminal(), vt220.Terminal(terminal="xterm")
@@ -368,21 +346,6 @@ def test_the_cell_is_laid_out_as_in_the_header():
     assert ctypes.sizeof(vt220._Cell) == 12
 
 
-def test_a_screen_is_drawn_anew_after_a_change_of_the_width():
-    shown, terminal = vt220.Terminal(), vt220.Terminal()
-    drawn = [shown.row(row) for row in range(1, 25)]
-    for step in (b"abc", b"\033[2;2Hx", b"\033[?3h\033[1;130Hyz", b"\033[5;100Hw", b"\033[?3l", b"d\033[1me"):
-        terminal.feed(step)
-        rows = [terminal.row(row) for row in range(1, 25)]
-        if shown.width() != terminal.width():
-            drawn = [list(row) for row in rows]
-        for row in range(1, 25):
-            for column in shown.changed(terminal, row):
-                drawn[row - 1][column - 1] = rows[row - 1][column - 1]
-        assert drawn == rows, step
-        shown.update(terminal)
-
-
 def test_a_terminal_of_another_size():
     terminal = vt220.Terminal(terminal="xterm", rows=40, columns=120)
     terminal.feed(b"\033[40;118Hend")
@@ -408,12 +371,6 @@ def test_two_sizes():
             vt220.Terminal(rows=size[0], columns=size[1])
         with pytest.raises(vt220.NoSize):
             small.resize(*size)
-    # A terminal that was resized to 24 by 80 isn't a VT220's: DECCOLM leaves its width.
-    large.resize(24, 80)
-    large.feed(b"\033[?3h")
-    assert large.width() == 80 and large.copy().same_state(large)
-    with pytest.raises(vt220.OtherSize):
-        small.copy_from(large)
 
 
 def test_a_thread_draws_two_sizes_in_turn():

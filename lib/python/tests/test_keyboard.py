@@ -1,6 +1,4 @@
 """Holds the keyboard against lib/rows/keys.txt, which has the tables of the VT220 Programmer Reference Manual."""
-import subprocess
-
 import pytest
 
 import vt220
@@ -8,6 +6,7 @@ from vt220 import Terminal
 from vt220.keyboard import Key, alt, ctrl, shift, spelled, typed
 
 from flat import keys
+from rigs import terminfo
 
 POWER_UP = Terminal().modes()
 MODES = ("lnm", "decckm", "keypad_application", "reports_8bit")
@@ -73,29 +72,13 @@ def test_what_is_typed_on_a_modern_terminal_for_one_in_utf_8():
     assert typed("\033[A\u0153\u201cx\u4e16".encode() + b"\xe2\x80", modes, "utf-8") == (b"\033OA" + "\u0153\u201cx\u4e16".encode(), b"\xe2\x80", "")
 
 
-def test_f5_and_modifiers_send_nothing_on_a_vt220():
-    """EK-VT220-RM, chapter 3: F1 to F5 are local keys."""
-    for name in ("F5", "S-Up", "C-Left", "A-F6", "S-Tab"):
-        with pytest.raises(vt220.NoKey):
-            vt220.key(name, POWER_UP)
-    for key in (Key.F5, shift(Key.UP), ctrl(Key.LEFT), alt(Key.F6), shift(Key.TAB)):
-        with pytest.raises(vt220.NoKey, match="a VT220 has no key"):
-            spelled(key, POWER_UP)
-
-
 def test_function_keys_are_those_of_terminfo():
     """The entry vt220 of terminfo was written by others: each of its function keys is ours."""
-    entry = subprocess.run(["infocmp", "-1", "vt220"], capture_output=True, text=True, check=True).stdout
     names = {"kf%d" % number: "F%d" % number for number in range(1, 21) if number != 5}
     names.update(kfnd="FIND", kich1="INSERT_HERE", kdch1="REMOVE", kslt="SELECT", kpp="PREV_SCREEN", knp="NEXT_SCREEN", khlp="HELP", krdo="DO",
                  kcuu1="UP", kcud1="DOWN", kcuf1="RIGHT", kcub1="LEFT")
-    seen = 0
-    for line in entry.splitlines():
-        name, _, code = line.strip().rstrip(",").partition("=")
-        if name in names:
-            assert spelled(Key[names[name]], POWER_UP) == code.replace("\\E", "\033").encode(), name
-            seen += 1
-    assert seen >= 25
+    found = {name: code for name, code in terminfo("vt220").items() if name in names}
+    assert len(found) >= 25 and found == {name: spelled(Key[names[name]], POWER_UP) for name in found}
 
 
 @pytest.mark.parametrize("one, name", [(Key.F5, "F5"), (shift(Key.UP), "S-Up"), (ctrl(alt(Key.F6)), "C-A-F6")])

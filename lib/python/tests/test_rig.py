@@ -26,29 +26,17 @@ from vt220.rig import ENTER, F6, UP, Failure, Key, KeyboardLocked, Reports, Scre
 from vt220.screen import MASK, Place, Stored, difference, differing, renewed
 from vt220.watchdog import MARK
 
+from rigs import LONG, SHOWS, in_a_directory, run, shell  # noqa: F401
 from vectors import vectors
 
 # Writes the size of its window when it begins and whenever that changes.
 TELL_SIZE = str(pathlib.Path(__file__).resolve().parents[3] / "tests/tell-size")
-# Limits that only say that something hangs.
-LONG = 300
-# Shows the bytes that it gets, after it has written its first argument.
-SHOWS = "stty raw -echo; printf \"$1\"; while :; do dd bs=100 count=1 2>/dev/null | od -An -tx1 -v; printf '\\r'; done"
 
 
 @pytest.fixture(autouse=True)
-def in_a_directory(tmp_path, monkeypatch):
-    monkeypatch.chdir(tmp_path)
-    # Whether there is a template of pages doesn't depend on what was built.
+def without_a_template(monkeypatch):
+    """Whether there is a template of pages doesn't depend on what was built."""
     monkeypatch.setenv("VT220_PAGE", "")
-
-
-def run(*argv, **options):
-    return rig_module.run(*argv, **{"timeout": LONG, **options})
-
-
-def shell(script, *arguments, **options):
-    return run("/bin/sh", "-c", script, "sh", *arguments, **options)
 
 
 def marked(text):

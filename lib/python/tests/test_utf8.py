@@ -2,36 +2,15 @@
 
 What a screen shows follows from the tables of docs/SPECIFICATION.md, 'UTF-8'.
 """
-import os
 import re
-import subprocess
-import sys
-import unicodedata
 
 import pytest
 
 import vt220
-from vt220 import rig as rig_module
 from vt220.expected import expression_as_shown, expression_of_text
-from vt220.rig import DELETE, DOWN, ENTER, ESCAPE, F7, F10, Failure, NoGlyph, Reports, Screen
+from vt220.rig import DELETE, DOWN, ENTER, ESCAPE, Failure, NoGlyph, Reports, Screen
 
-# A limit that only says that something hangs.
-LONG = 300
-# Shows the bytes that it gets.
-SHOWS = "stty raw -echo; printf ready; while :; do dd bs=100 count=1 2>/dev/null | od -An -tx1 -v; printf '\\r'; done"
-
-
-@pytest.fixture(autouse=True)
-def in_a_directory(tmp_path, monkeypatch):
-    monkeypatch.chdir(tmp_path)
-
-
-def run(*argv, **options):
-    return rig_module.run(*argv, **{"timeout": LONG, **options})
-
-
-def shell(script, **options):
-    return run("/bin/sh", "-c", script, **options)
+from rigs import SHOWS, in_a_directory, run, shell  # noqa: F401
 
 
 def screen_of(text):
@@ -60,14 +39,14 @@ def test_a_test_chooses_the_locale():
 def test_keys_are_sent_in_the_encoding(options, sent):
     text = bytes.fromhex(sent).decode("latin-1" if options else "utf-8")
     for press in ("keys", "paste"):
-        with shell(SHOWS, **options) as rig:
+        with shell(SHOWS, "ready", **options) as rig:
             rig.wait("ready")
             getattr(rig, press)(text)
             rig.wait(text=sent)
 
 
 def test_a_character_that_no_key_sends_is_refused():
-    with shell(SHOWS) as rig, shell(SHOWS, encoding="dec") as other:
+    with shell(SHOWS, "ready") as rig, shell(SHOWS, "ready", encoding="dec") as other:
         for one, text in ((rig, "\u009b"), (other, "\u201c")):
             one.wait("ready")
             with pytest.raises(ValueError, match="no key of a VT220 sends"):
@@ -225,22 +204,6 @@ def test_a_failure_names_what_is_shown(tmp_path):
     assert f"play it:   python3 -m vt220 --format asciicast {tmp_path}/r/x.cast " in words and rig.recording == b"\xe2\x80\x9cWelt"
 
 
-def module(*words):
-    return subprocess.run([sys.executable, "-B", "-m", "vt220", *words], capture_output=True, text=True,
-                          env={**os.environ, "PYTHONPATH": os.path.dirname(os.path.dirname(vt220.__file__))})
-
-
-def test_the_command_has_an_encoding(tmp_path):
-    (tmp_path / "file").write_bytes(b"\xe2\x80\x9c\xe2\x80\x9c\xe9")
-    for words, first in ((["file"], '""'), (["--format", "raw", "file"], "\u00e2\u00e2\u00e9"), (["--encoding", "dec", "file"], "\u00e2\u00e2\u00e9"), (["--encoding", "utf-8", "file"], '""'),
-                         (["--encoding", "utf-8", "file", "5"], '"')):
-        done = module(*words)
-        assert (done.returncode, done.stdout.split("\n")[0]) == (0, first), words
-    for words in ([], ["--encoding"], ["--encoding", "utf-8"], ["--encoding", "latin-1", "file"], ["file", "x"]):
-        done = module(*words)
-        assert (done.returncode, done.stdout) == (2, "") and "--encoding ENCODING" in done.stderr, words
-
-
 def test_a_character_that_is_cut_waits_for_its_end():
     with shell("stty -icanon -echo; printf 'ready \\342\\200'; read line; printf '\\235\\033[6n'; head -c 6 | od -An -c") as rig:
         rig.wait("^ready")
@@ -251,42 +214,6 @@ def test_a_character_that_is_cut_waits_for_its_end():
         # The report comes from the place after the character.
         rig.wait(r"033   \[   1   ;   8   R")
         assert rig.screen.at("\u201d", row=1).col == 7
-
-
-def test_the_plugin_has_an_encoding(tmp_path):
-    (tmp_path / "test_it.py").write_text(
-        "import os\n\ndef test_it(vt):\n    with_default = vt.run('locale', 'charmap')\n    with_default.ended()\n"
-        "    assert with_default.screen.rows[0] == os.environ['CHARMAP']\n    other = vt.run('locale', 'charmap', encoding='dec')\n    other.ended()\n"
-        "    assert other.screen.rows[0] == 'ANSI_X3.4-1968'\n")
-    for options, charmap in (([], "UTF-8"), (["--vt-encoding", "dec"], "ANSI_X3.4-1968")):
-        words = [sys.executable, "-B", "-m", "pytest", "-p", "vt220.pytest_plugin", "-p", "no:cacheprovider", "-q", "--vt-timeout", str(LONG), *options, str(tmp_path)]
-        kept = {name: value for name, value in os.environ.items() if not name.startswith("PYTEST")}
-        done = subprocess.run(words, cwd=tmp_path, capture_output=True, text=True,
-                              env={**kept, "PYTHONPATH": os.path.dirname(os.path.dirname(vt220.__file__)), "CHARMAP": charmap})
-        assert done.returncode == 0, done.stdout
-
-
-# Letters that aren't ASCII, by the Unicode Character Database.
-
-# Those of the VT220's own sets (VT220 Programmer Reference Manual, the multinational set): of Latin 1 all but eth, thorn and Y with an acute.
-OWN = {chr(c) for c in range(0xC0, 0x100)} - set("\u00d0\u00dd\u00de\u00f0\u00fd\u00fe") | set("\u0152\u0153\u0178")
-# Eth and eng, which Unicode neither decomposes nor names by a letter, have a stroke and a hook.
-STROKED = {"\u00d0": "D", "\u00f0": "d", "\u014a": "N", "\u014b": "n"}
-
-
-def one_letter(character):
-    """Returns the one ASCII letter of which a letter is made, by its decomposition or by its name ('WITH STROKE', 'DOTLESS'), or U+2426."""
-    letters = [part for part in unicodedata.normalize("NFKD", character) if part.isascii() and part.isalpha()]
-    named = re.fullmatch(r"LATIN (CAPITAL|SMALL) LETTER (?:DOTLESS )?([A-Z])(?: WITH STROKE)?", unicodedata.name(character))
-    if len(letters) != 1 and named:
-        letters = [named[2] if named[1] == "CAPITAL" else named[2].lower()]
-    return letters[0] if len(letters) == 1 else STROKED.get(character, "\u2426")
-
-
-@pytest.mark.parametrize("code", [code for code in range(0xC0, 0x180) if unicodedata.category(chr(code))[0] == "L"])
-def test_a_letter_is_shown_by_its_letter(code):
-    character = chr(code)
-    assert vt220.shown(character) == (character if character in OWN else one_letter(character))
 
 
 # Programs.
@@ -346,30 +273,3 @@ def test_dialog_keeps_its_frame_around_wide_characters(tmp_path):
         rig.keys(ENTER)
         rig.ended()
     assert (tmp_path / "chosen").read_text() == "2"
-
-
-def test_mc_makes_a_directory_with_a_name_in_utf_8(tmp_path):
-    for name in ("home", "left", "right"):
-        (tmp_path / name).mkdir()
-    with run("mc", "-u", "-b", "-X", str(tmp_path / "left"), str(tmp_path / "right"), cwd=tmp_path / "left", env={"HOME": str(tmp_path / "home")}) as rig:
-        rig.wait("10Quit", row=24)
-        rig.keys(F7)
-        rig.wait("Create a new Directory")
-        rig.keys("\u00dcbung \u2013 1")
-        rig.wait("\u00dcbung \u2013 1")
-        rig.keys(ENTER)
-        rig.wait("/\u00dcbung \u2013 1")
-        rig.keys(F10)
-        rig.ended()
-    assert (tmp_path / "left" / "\u00dcbung \u2013 1").is_dir()
-
-
-def test_bash_edits_a_line_with_characters_of_more_bytes():
-    with run("bash", "--norc", "--noprofile", "-i", env={"PS1": "$ ", "HISTFILE": "", "INPUTRC": "/dev/null"}) as rig:
-        rig.wait(cursor=(1, 3))
-        rig.keys("echo \u201cb\u00e9\u4e16\u201d", DELETE, DELETE, "\u201d")
-        rig.wait("^\\$ echo \u201cb\u00e9\u201d$", row=1)
-        rig.keys(ENTER)
-        rig.wait("^\u201cb\u00e9\u201d$", row=2)
-        rig.keys("exit", ENTER)
-        rig.ended()

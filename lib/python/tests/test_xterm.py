@@ -1,29 +1,19 @@
 """Tests the rig with programs that have TERM=xterm-256color."""
-import subprocess
-import sys
+import functools
 
 import pytest
 
 import vt220
-from vt220 import rig as rig_module
 from vt220.keyboard import Key, alt, ctrl, shift, spelled, typed
 from vt220.page import template
 from vt220.rig import END, F5, HOME, LEFT, TAB, UP, Failure, Reports
 
+import rigs
 import xterm_keys
+from rigs import SHOWS, in_a_directory, terminfo  # noqa: F401
 
-# A limit that only says that something hangs.
-LONG = 300
 POWER_UP = vt220.Modes(False, False, True, False, False, False, False, False, True, True, True, False, False)
-
-
-@pytest.fixture(autouse=True)
-def in_a_directory(tmp_path, monkeypatch):
-    monkeypatch.chdir(tmp_path)
-
-
-def run(*argv, **options):
-    return rig_module.run(*argv, **{"timeout": LONG, "terminal": "xterm", **options})
+run = functools.partial(rigs.run, terminal="xterm")
 
 
 @pytest.mark.parametrize("options, wanted", [({}, "xterm-256color C.UTF-8"), ({"term": "xterm"}, "xterm C.UTF-8"), ({"terminal": "vt220"}, "vt220 C.UTF-8")])
@@ -77,46 +67,36 @@ def test_a_failure_names_the_terminal(tmp_path):
 
 def test_keys_are_those_of_terminfo():
     """The entry xterm-256color has the keys under DECCKM and DECKPAM. Each of them that is a key here sends the same."""
-    entry = subprocess.run(["infocmp", "-1", "xterm-256color"], capture_output=True, text=True, check=True).stdout
     names = {"kf%d" % number: "F%d" % number for number in range(1, 21)}
     names.update(khome="HOME", kend="END", kich1="INSERT_HERE", kdch1="REMOVE", kpp="PREV_SCREEN", knp="NEXT_SCREEN", kcuu1="UP", kcud1="DOWN",
                  kcuf1="RIGHT", kcub1="LEFT", kent="KP_ENTER")
-    modes, seen = POWER_UP._replace(decckm=True, keypad_application=True), 0
-    for line in entry.splitlines():
-        name, _, code = line.strip().rstrip(",").partition("=")
-        if name in names:
-            assert spelled(Key[names[name]], modes, "utf-8", "xterm") == code.replace("\\E", "\033").encode(), name
-            seen += 1
-    assert seen == len(names)
+    modes, entry = POWER_UP._replace(decckm=True, keypad_application=True), terminfo("xterm-256color")
+    for name, key in names.items():
+        assert spelled(Key[key], modes, "utf-8", "xterm") == entry[name], name
 
 
 def test_the_keys_with_modifiers_are_those_of_terminfo():
     """terminfo(5) and user_caps(5) have the names: kLFT is Shift with the cursor key, and kLFT3 to kLFT7 have the number of xterm."""
-    entry = subprocess.run(["infocmp", "-1x", "xterm-256color"], capture_output=True, text=True, check=True).stdout
     held = {"": "S-", "3": "A-", "4": "S-A-", "5": "C-", "6": "S-C-", "7": "A-C-"}
     kinds = {"kUP": "Up", "kDN": "Down", "kRIT": "Right", "kLFT": "Left", "kHOM": "Home", "kEND": "End", "kIC": "Insert", "kDC": "Remove", "kPRV": "PageUp", "kNXT": "PageDown"}
     names = {f"{kind}{number}": prefix + key for kind, key in kinds.items() for number, prefix in held.items()}
     names.update(kri="S-Up", kind="S-Down", kcbt="S-Tab", kf5="F5")
     names.update((f"kf{first + number}", f"{prefix}F{number}") for first, prefix in ((12, "S-"), (24, "C-"), (36, "S-C-"), (48, "A-"), (60, "S-A-")) for number in range(1, 13))
-    rows, seen = {name: sent for name, _, sent in xterm_keys.rows()}, 0
-    for line in entry.splitlines():
-        name, _, code = line.strip().rstrip(",").partition("=")
-        if name in names:
-            sent = code.replace("\\E", "\033").encode()
-            assert rows[names[name]] == sent == vt220.key(names[name], POWER_UP._replace(decckm=True), terminal="xterm"), name
-            seen += 1
+    rows, entry = {name: sent for name, _, sent in xterm_keys.rows()}, terminfo("-x", "xterm-256color")
+    named = [name for name in names if name in entry]
+    for name in named:
+        assert rows[names[name]] == entry[name] == vt220.key(names[name], POWER_UP._replace(decckm=True), terminal="xterm"), name
     # The entry has kf1 to kf63, and no names beyond.
-    assert seen == len(names) - 9
+    assert len(named) == len(names) - 9
 
 
 def test_a_program_gets_keys_with_modifiers():
-    shows = "stty raw -echo; printf ready; while :; do dd bs=100 count=1 2>/dev/null | od -An -tx1 -v; printf '\\r'; done"
     for keys, sent in (((F5,), "1b 5b 31 35 7e"), ((shift(TAB),), "1b 5b 5a"), ((ctrl(LEFT), alt(UP)), "1b 5b 31 3b 35 44 1b 5b 31 3b 33 41"), ((ctrl(shift(HOME)), "x"), "1b 5b 31 3b 36 48 78")):
-        with run("/bin/sh", "-c", shows) as rig:
+        with rigs.shell(SHOWS, "ready", terminal="xterm") as rig:
             rig.wait("ready")
             rig.keys(*keys)
             rig.wait(text=sent)
-    with run("/bin/sh", "-c", shows, terminal="vt220") as rig:
+    with rigs.shell(SHOWS, "ready") as rig:
         for key in (F5, shift(TAB)):
             with pytest.raises(vt220.NoKey, match="a VT220 has no key"):
                 rig.keys(key)
@@ -132,23 +112,17 @@ def test_a_colour_is_read_under_xterm_alone(options, blinks):
         assert rig.ended().at("bat").blink == blinks
 
 
-def test_home_and_end_follow_decckm():
-    assert spelled(HOME, POWER_UP, "utf-8", "xterm") == b"\033[H" and spelled(END, POWER_UP, "utf-8", "xterm") == b"\033[F"
-    assert spelled(HOME, POWER_UP) == b"\033[1~" and spelled(END, POWER_UP) == b"\033[4~"
-    assert spelled("é", POWER_UP, "utf-8", "xterm") == "é".encode()
-
-
 def test_keys_that_were_typed_on_another_terminal():
     """A sequence of a VT220 is the key, and that of xterm passes as it came."""
-    wanted = b"\033OH\033OF\033[1;2P\033[19;2~\033[1;2P\033[15~\033OA\303\251"
-    assert typed(b"\033[1~\033[F\033[25~\033[34~\033[1;2P\033[15~\033[A\303\251", POWER_UP._replace(decckm=True), "utf-8", "xterm").sent == wanted
+    wanted = b"\033OH\033OH\033OF\033[1;2P\033[19;2~\033[1;2P\033[15~\033OA\303\251"
+    assert typed(b"\033[1~\033[H\033[F\033[25~\033[34~\033[1;2P\033[15~\033[A\303\251", POWER_UP._replace(decckm=True), "utf-8", "xterm").sent == wanted
     assert typed(b"\033[1~\033[25~", POWER_UP, "utf-8").sent == b"\033[1~\033[25~"
 
 
 @pytest.mark.parametrize("terminal, wanted", [("xterm", ["$ echo one", "echo two", "one", "two"]), ("vt220", ["$ echo one", "one", "$ echo two", "two"])])
 def test_bash_runs_pasted_lines_at_return_if_they_are_in_brackets(terminal, wanted):
     """bash asks for brackets under TERM=xterm: then it inserts the lines, and runs them together."""
-    with rig_module.run("bash", "--norc", "--noprofile", terminal=terminal, timeout=LONG, env={"PS1": "$ ", "INPUTRC": "/dev/null"}) as rig:
+    with run("bash", "--norc", "--noprofile", terminal=terminal, env={"PS1": "$ ", "INPUTRC": "/dev/null"}) as rig:
         rig.wait(text="$ ")
         rig.paste("echo one\necho two")
         rig.wait("echo two")

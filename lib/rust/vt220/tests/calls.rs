@@ -34,9 +34,6 @@ fn copies_and_changes() {
     let marks = a.row_changes(&b, 2).unwrap();
     assert!(marks.len() == 80 && marks[0] && marks.iter().filter(|&&changed| changed).count() == 1);
     assert_eq!(a.row_changes(&b, 25), Err(Error::NoRow));
-    let mut wide = Terminal::new().unwrap();
-    wide.feed(b"\x1b[?3h");
-    assert!(a.row_changes(&wide, 2).unwrap().len() == 132 && wide.row_changes(&a, 2).unwrap().len() == 80);
     assert_eq!(b.row_text(2, &mut scratch).unwrap(), "B\n");
     assert_eq!(b.row_text(0, &mut scratch), Err(Error::NoRow));
     assert!(b.show(&mut scratch).starts_with("abc\nB\n") && b.picture(&mut scratch).starts_with("<svg "));
@@ -97,21 +94,10 @@ fn a_terminal_has_another_size() {
     assert_eq!(terminal.row(41), None);
     assert!(terminal.row_text(40, &mut scratch).unwrap().ends_with("end\n"));
     assert_eq!(terminal.row_text(41, &mut scratch), Err(Error::NoRow));
-}
-
-#[test]
-fn a_terminal_is_resized() {
-    let (mut terminal, mut scratch) = (Terminal::new().unwrap(), Scratch::new().unwrap());
-    terminal.feed(b"first\x1b[24;1Hlast");
-    terminal.resize(255, 255).unwrap();
-    assert_eq!(terminal.text(&mut scratch).lines().count(), 255);
     terminal.resize(10, 80).unwrap();
-    assert_eq!(terminal.row_text(10, &mut scratch).unwrap(), "last\n");
-    let copy = terminal.try_clone().unwrap();
-    assert!(copy.same_state(&terminal));
-    assert!(terminal.picture(&mut scratch).contains("</svg>"));
+    assert!(terminal.try_clone().unwrap().same_state(&terminal) && terminal.picture(&mut scratch).contains("</svg>"));
     let (_, lines) = terminal.feed_log(&b"\n".repeat(20), &mut scratch);
-    assert_eq!(lines.lines().count(), 20);
+    assert_eq!((terminal.text(&mut scratch).lines().count(), lines.lines().count()), (10, 20));
 }
 
 #[test]

@@ -62,37 +62,7 @@ impl Screen {
         }
     }
 
-    /// Returns a terminal of the row that shows something else.
-    fn begun(&self, terminal: &Terminal, pending: &[u8]) -> Terminal {
-        let mut other = self.open();
-        other.feed(&[b"any\x1b[5mthing\x1b[?3h\x1b[?47hpage", pending].concat());
-        if terminal.rows() == self.sizes[1].0 {
-            self.change(&mut other);
-        }
-        other
-    }
-
-    /// Returns the repaint of a terminal, which rebuilds it on another one, as an update does. There is neither inside a sequence.
-    fn repainted(&self, terminal: &Terminal, scratch: &mut Scratch) -> String {
-        let (mut painted, mut updated, mut shown) = (self.begun(terminal, b"\xe2"), self.begun(terminal, b""), self.begun(terminal, b""));
-        let is_xterm = self.language == Language::Xterm;
-        if !terminal.is_between() {
-            assert!(terminal.repaint(scratch) == Err(Error::Partial) && terminal.held() != Held::Nothing);
-            assert!(is_xterm || shown.update(terminal, scratch) == Err(Error::Partial));
-            return "partial".to_string();
-        }
-        let repaint = terminal.repaint(scratch).unwrap();
-        assert!(painted.feed(&repaint).is_empty() && (self.language == Language::Bytes || painted.pending().is_empty()));
-        painted.feed(&terminal.pending());
-        assert!(is_same(&painted, terminal) && painted.repaint(scratch).as_ref() == Ok(&repaint));
-        if !is_xterm {
-            let update = shown.update(terminal, scratch).unwrap();
-            assert!(updated.feed(&update).is_empty() && updated.same_state(terminal) && shown.update(terminal, scratch).unwrap().is_empty());
-        }
-        hex_of(&repaint)
-    }
-
-    /// Plays the row in chunks, with the log and without one. Another terminal is copied from it after each chunk.
+    /// Plays the row in chunks, with the log and without one.
     fn play(&self, size: usize, scratch: &mut Scratch) {
         let (mut terminal, mut other) = (self.open(), self.open());
         let (mut reports, mut lines) = (Vec::new(), String::new());
@@ -104,16 +74,13 @@ impl Screen {
             for piece in input.chunks(size) {
                 let (now, off) = terminal.feed_log(piece, scratch);
                 assert!(other.feed(piece) == now && is_same(&other, &terminal), "{}: {piece:?}", self.name);
-                other = terminal.try_clone().unwrap();
-                assert!(is_same(&other, &terminal));
-                if self.language == Language::Xterm && self.sizes[0] == (24, 80) {
-                    self.repainted(&terminal, scratch);
-                }
                 reports.extend(now);
                 lines += &off;
             }
         }
-        let (found, repaint) = (described(&terminal, scratch, &reports, &lines), self.repainted(&terminal, scratch));
+        let (found, repaint) = (described(&terminal, scratch, &reports, &lines), terminal.repaint(scratch).map(|bytes| hex_of(&bytes)));
+        assert!(repaint == Err(Error::Partial) || terminal.is_between());
+        let repaint = repaint.unwrap_or("partial".to_string());
         assert!(self.wanted == "-" || found == self.wanted, "{} in chunks of {size}: {found}, and not {}", self.name, self.wanted);
         assert!(self.repaint == "-" || repaint == self.repaint, "{} in chunks of {size}: {repaint}, and not {}", self.name, self.repaint);
         assert_eq!(terminal.text(scratch), plain(&terminal.show(scratch)));

@@ -5,7 +5,5 @@ mod Cutting
 mod DrawnRows
 mod Same
 mod Kept
-mod Window
-mod Shows
 mod CellWords
 mod ShownRuns

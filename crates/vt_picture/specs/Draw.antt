@@ -7,7 +7,6 @@ use Rattle.vt_screen.specs.declared.cell.Rendition.{Rendition}
 use Rattle.vt_screen.specs.declared.cell.Cell.{Cell}
 use Rattle.vt_screen.specs.Cells.{plain, blank}
 use Rattle.vt_screen.specs.declared.size.Size.{Size}
-use Rattle.vt_screen.specs.Sizes.{vt220_size}
 use Rattle.vt_screen.specs.Grid.{row_of}
 use Rattle.vt_screen.specs.Same.{when, same_bool, same_rendition}
 use Rattle.vt_term.specs.State.{State}
@@ -41,13 +40,6 @@ pub record Shown : Type 0 where
   pub row : ℕ
   pub col : ℕ
   pub has_cursor : Bool
-
--- two screens look the same
-pub record LooksLike (a b : Shown) : Type 0 where
-  pub cells : (r : ℕ) → a.cells r ≡ b.cells r
-  pub row : a.row ≡ b.row
-  pub col : a.col ≡ b.col
-  pub has_cursor : a.has_cursor ≡ b.has_cursor
 
 abbrev pub shown : State → Shown
 shown s = record {
@@ -149,14 +141,3 @@ sized_draw s = draw_at s.display.grid.size s
 abbrev pub sized_draw_from : State → State → List ℕ
 sized_draw_from a b =
     if a.display.grid.size.rows == b.display.grid.size.rows then draw_from_at b.display.grid.size a b else sized_draw b
-
--- ---- on a VT220
-
-abbrev pub changes : Shown → Shown → List ℕ
-changes old new = changes_at vt220_size old new
-
-abbrev pub draw : State → List ℕ
-draw s = draw_at vt220_size s
-
-abbrev pub draw_from : State → State → List ℕ
-draw_from a b = draw_from_at vt220_size a b

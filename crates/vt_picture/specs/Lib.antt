@@ -3,5 +3,4 @@ pub mod Limits
 pub mod Show
 pub mod Picture
 pub mod Draw
-pub mod Window
 pub mod Private

@@ -2,6 +2,7 @@ pub mod Due
 pub mod EventTable
 pub mod Host
 pub mod Log
+pub mod Plain
 pub mod Playing
 pub mod Request
 pub mod Resizes

@@ -7,6 +7,7 @@ mod engine;
 mod events;
 mod host;
 mod language;
+pub mod laws;
 mod log_output;
 mod log_player;
 mod logging;

@@ -7,6 +7,5 @@ pub mod Runs
 mod Happened
 mod Digits
 pub mod Beyond
-pub mod ItemKinds
 pub mod Words
 pub mod SequenceNames

@@ -1,5 +1,4 @@
 pub mod Names
-pub mod Ignored
 pub mod Lines
 pub mod Skipped
 pub mod Trace

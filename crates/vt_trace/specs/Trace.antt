@@ -1,14 +1,11 @@
 -- The trace: the lines of the events of bytes, with their places, texts and reports, and of what is no event. (this profile)
-use Rattle.std.specs.Prelude.{◌≡◌, ℕ, ◌+◌, List, [], ◌∷◌, ◌++◌, Bool, true, false, not, ◌==◌, ◌||◌, ◌&&◌, nat_le, nat_lt}
+use Rattle.std.specs.Prelude.{ℕ, ◌+◌, List, [], ◌∷◌, ◌++◌, Bool, true, false, not, ◌==◌, ◌||◌, ◌&&◌, nat_le, nat_lt}
 use Rattle.std.specs.Prelude.{codes, decimal, length, take, if◌then◌else◌}
 use Rattle.vt_syntax.specs.declared.event.Event.{Event}
 use Rattle.vt_syntax.specs.declared.event.Event.TheVariants.{Print, Control, Escape, Sequence}
 use Rattle.vt_syntax.specs.declared.held.Held.{Held}
 use Rattle.vt_syntax.specs.declared.held.Held.TheVariants as held
-use Rattle.std.specs.List.{flat_map}
-use Rattle.vt_syntax.specs.Items.{item_bytes, rest_bytes}
-use Rattle.vt_syntax.specs.Split.{split_of}
-use Rattle.vt_syntax.specs.Held.{events_from, held_after, held_from}
+use Rattle.vt_syntax.specs.Held.{events_from, held_from}
 use Rattle.vt_glyph.specs.Invocation.{has_no_glyph}
 use Rattle.vt_screen.specs.declared.size.Size.{Size}
 use Rattle.vt_term.specs.State.{Display, State}
@@ -19,7 +16,7 @@ use Rattle.vt_term.specs.Happenings.{Happening, happening}
 use Rattle.vt_term.specs.Play.{play}
 use Rattle.vt_trace.specs.declared.tracing.Tracer.{Tracer}
 use Rattle.vt_trace.specs.Lines.{Names, shown_byte, shown, line, event_line_by}
-use Rattle.vt_trace.specs.Skipped.{cut_sequence, spoilt_sequence, is_empty, code_of, skipped_line}
+use Rattle.vt_trace.specs.Skipped.{cut_sequence, spoilt_sequence, is_empty, skipped_line}
 
 -- ---- tracers
 
@@ -199,11 +196,3 @@ size_lines t size = text_end t.in_text ++ line t.place (codes "size") (size_colu
 -- the tracer after a change: no text goes on, and what is held does
 abbrev pub tracer_resized : Tracer → Tracer
 tracer_resized t = record t { in_text = false }
-
--- what a tracer keeps of bytes, by their split. Of what is left it has the place, the first bytes, and the C1 control
--- of a string. The place is the length of the items before what is left
-pub record IsAfter (bytes : List ℕ) (t : Tracer) : Type 0 where
-  pub place : t.place ≡ length bytes
-  pub begin : is_nothing (held_after bytes) ≡ false → t.begin ≡ length (flat_map item_bytes (split_of bytes).items)
-  pub first : t.first.items ≡ take 33 (rest_bytes (split_of bytes).rest)
-  pub code : t.code ≡ code_of (split_of bytes).rest

@@ -5,7 +5,6 @@ pub mod Showing
 pub mod Translation
 pub mod Limits
 pub mod Play
-pub mod Placing
 pub mod Text
 pub mod Logs
 pub mod Sinks

@@ -24,8 +24,8 @@ use Rattle.vt_screen.specs.Sizes.{vt220_size}
 use Rattle.vt_replay.specs.Host.{terminal_for, encoding_for, named_for, takes_size, size_for, plain_host}
 use Rattle.vt_replay.specs.Words.{WordTable}
 use Rattle.vt_replay.specs.Request.{is_streamed, takes_whole, needs_whole, format_of, IsStreamed, OutcomeBy, OutcomeTable}
-use Rattle.vt_laws.specs.Plain.{IsPlainCommand}
-use Rattle.vt_laws.proofs.Found.{Options, Asked, options_in, asked_by, asked, no_options, AsksPlainly}
+use Rattle.vt_replay.specs.Plain.{IsPlainCommand}
+use Rattle.vt_replay.proofs.Found.{Options, Asked, options_in, asked_by, asked, no_options, AsksPlainly}
 
 -- ---- the word of a name
 

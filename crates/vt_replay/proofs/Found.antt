@@ -15,7 +15,7 @@ use Rattle.vt_cli.specs.declared.what.Word.{Word}
 use Rattle.vt_cli.specs.declared.what.Word.TheVariants.{Replay, Log}
 use Rattle.vt_cli.specs.CommandLine.{vt220, word_name}
 use Rattle.vt_cli.specs.Source.{source_in}
-use Rattle.vt_laws.specs.Plain.{IsOperand}
+use Rattle.vt_replay.specs.Plain.{IsOperand}
 
 -- how the input was recorded and what it is played for
 pub record Options : Type 0 where

@@ -1,4 +1,4 @@
-//! Laws of the program's commands that no body cites. A caller cites a law by a call of its function.
+//! A law of the program's commands, over the definitions alone. A caller cites it by a call of its function.
 ghost use Rattle.std.specs.Prelude.{◌≡◌, ℕ, List, Option, codes, option_map, string_bytes};
 ghost use Rattle.std.specs.declared.alloc.Global.{Global};
 ghost use Rattle.std.specs.declared.string.String.{String};
@@ -16,7 +16,7 @@ ghost use Rattle.vt_replay.specs.declared.requests.Outcome.{Outcome};
 ghost use Rattle.vt_replay.specs.Due.{is_nothing};
 ghost use Rattle.vt_recording.specs.declared.format.Format.TheVariants.{Raw};
 ghost use Rattle.vt_replay.specs.Request.{format_of, OutcomeTable};
-ghost use Rattle.vt_laws.specs.Plain.{IsPlainCommand};
+ghost use Rattle.vt_replay.specs.Plain.{IsPlainCommand};
 
 /// States what `text`, `repaint`, `show` and `log` write without options, in terms of the play alone. The words are the command, and
 /// a file if its name is among them. For `show` and `log` the beginning of the input decides, and shows no recording: it is raw.

@@ -1,5 +1,0 @@
-pub mod Wide
-pub mod Parts
-pub mod Scrolls
-pub mod Characters
-pub mod Plain

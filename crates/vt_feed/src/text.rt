@@ -1,8 +1,9 @@
 //! Feeding UTF-8.
-ghost use Rattle.std.specs.Prelude.{◌≡◌, ◌+◌, ◌*◌, ◌≤◌, ◌<◌, ◌++◌, [], ◌∷◌, length, take, slice_index, vec_len, vec_capacity};
+ghost use Rattle.std.specs.Prelude.{◌≡◌, ◌+◌, ◌*◌, ◌≤◌, ◌<◌, ◌++◌, [], ◌∷◌, All, length, take, slice_index, vec_len, vec_capacity};
 ghost use Rattle.std.specs.Prelude.{IfSome};
 ghost use Rattle.std.specs.Option.{option_to_list};
 ghost use Rattle.bstr.specs.Utf8.{replacement};
+ghost use Rattle.vt_syntax.specs.declared.held.Held.TheVariants.{Nothing};
 ghost use Rattle.vt_feed.specs.Actions.{Plays, state_after, reports};
 ghost use Rattle.vt_feed.specs.Languages.{asked, held_by, all_asked, held_by_all, beyond, held_beyond, reading, utf8};
 ghost use Rattle.vt_feed.specs.Observing.{does, happenings};
@@ -47,6 +48,16 @@ pub fn feed_utf8<M: Machine, O: Observer<M>>(
     at
 }
 
+/// Returns how many bytes at the front of a chunk that isn't empty are ASCII. Speed: after a first byte beyond ASCII no vector is read.
+#[inline(always)]
+fn front_run(piece: &[u8]) -> usize
+    requires { 1 ≤ length piece.now }
+    ensures within { result ≤ length piece.now }
+    ensures ascii { All (λ b. b < 0x80) (take result piece.now) }
+{
+    if piece[0] < 0x80 { ascii_run(piece) } else { 0 }
+}
+
 /// Plays the front of a chunk that isn't empty: a run of ASCII, a character, or a byte. Returns how many bytes it played: none if
 /// the observer is full.
 #[inline(always)]
@@ -71,7 +82,7 @@ fn feed_some<M: Machine, O: Observer<M>>(
     if !decoder.is_empty() {
         return feed_byte(machine, parser, decoder, piece[0], observer, out);
     }
-    let ascii = ascii_run(piece);
+    let ascii = front_run(piece);
     if ascii > 0 {
         return feed(machine, parser, &piece[..ascii], observer, out);
     }
@@ -187,6 +198,16 @@ fn play_character<M: Machine, O: Observer<M>>(
     }
 }
 
+/// Drops what is held of a sequence. Speed: mostly nothing is held, and nothing is written.
+#[inline(always)]
+fn drop_held(parser: &mut Parser)
+    ensures { parser.new ≡ Nothing }
+{
+    if !parser.is_between() {
+        *parser = Parser::new();
+    }
+}
+
 /// Plays a character beyond ASCII.
 #[inline(always)]
 fn play_beyond<M: Machine, O: Observer<M>>(
@@ -206,7 +227,7 @@ fn play_beyond<M: Machine, O: Observer<M>>(
     if let Held::Text { .. } = parser.held() {
         return;
     }
-    *parser = Parser::new();
+    drop_held(parser);
     observer.character(machine, c);
     machine.write_character(c);
 }

@@ -4,13 +4,13 @@ use Rattle.vt_feed.proofs.text.feed_some.Goals as goal
 
 pub returns-then-ascii-gt0-clause-plays : goal.returns-then-ascii-gt0-clause-plays
 returns-then-ascii-gt0-clause-plays g c =
-    run-plays g.M.Machine.machine _ _ _ c.args.piece.now c.feed.result c.ascii_run-ascii.result (sym c.is_empty.ensures ∙ c.if-not-is_empty.false)
-    c.ascii_run-ascii.ensures.ascii c.feed.ensures.within _ _ _ _ c.feed.ensures.plays
+    run-plays g.M.Machine.machine _ _ _ c.args.piece.now c.feed.result c.front_run-ascii.result (sym c.is_empty.ensures ∙ c.if-not-is_empty.false)
+    c.front_run-ascii.ensures.ascii c.feed.ensures.within _ _ _ _ c.feed.ensures.plays
 
 pub returns-then-ascii-gt0-clause-saw : goal.returns-then-ascii-gt0-clause-saw
 returns-then-ascii-gt0-clause-saw g c =
-    run-saw g.M.Machine.machine _ _ _ c.args.piece.now c.feed.result c.ascii_run-ascii.result (sym c.is_empty.ensures ∙ c.if-not-is_empty.false)
-    c.ascii_run-ascii.ensures.ascii c.feed.ensures.within g.O.Observer.Saw _ _ c.feed.ensures.saw
+    run-saw g.M.Machine.machine _ _ _ c.args.piece.now c.feed.result c.front_run-ascii.result (sym c.is_empty.ensures ∙ c.if-not-is_empty.false)
+    c.front_run-ascii.ensures.ascii c.feed.ensures.within g.O.Observer.Saw _ _ c.feed.ensures.saw
 
 pub returns-clause-plays : goal.returns-clause-plays
 returns-clause-plays g c =

@@ -2,4 +2,3 @@ mod Numbers
 mod Digits
 mod Readings
 pub mod Writable
-pub mod Shown

@@ -1,5 +1,5 @@
 -- What a cell is made of can be written again.
-use Rattle.std.proofs.Common.{◌≡◌, ℕ, ◌+◌, ◌*◌, ◌/◌, ◌%◌, ◌<◌, ◌≤◌, Bool, true, false, IsTrue, arith, refl, sym, ap, ◌∙◌, inl, inr}
+use Rattle.std.proofs.Common.{◌≡◌, ℕ, ◌+◌, ◌-◌, ◌*◌, ◌/◌, ◌%◌, ◌<◌, ◌≤◌, Bool, true, false, IsTrue, arith, refl, sym, ap, ◌∙◌, inl, inr}
 use Rattle.std.specs.Prelude.{◌==◌, ◌&&◌, ◌||◌, not, nat_le, nat_lt, if◌then◌else◌}
 use Rattle.std.proofs.lemmas.Bool.{cases_lt, false≢true}
 use Rattle.std.proofs.lemmas.Bool.Decides.{nat_tests, eqb_tells}
@@ -10,8 +10,9 @@ use Rattle.vt_screen.specs.Grid.{is_within}
 use Rattle.unicode_width.specs.Width.{char_width}
 use Rattle.vt_utf8.specs.Cells.{cells}
 use Rattle.vt_utf8.proofs.Widths.{looked_up, cells-looked_up}
+use Rattle.vt_xterm_cell.specs.declared.look.Colour.TheVariants.{Indexed}
 use Rattle.vt_xterm_cell.specs.Characters.{is_mark, has_columns, is_mark_or_none, is_shown}
-use Rattle.vt_xterm_cell.specs.Words.{flag, parts_of, IsText}
+use Rattle.vt_xterm_cell.specs.Words.{COLOURS, flag, colour_of, rgb_of, look_of, is_colour, has_colours, is_sound_cell, parts_of, IsText, IsLook}
 
 -- ---- characters
 
@@ -149,3 +150,25 @@ glyph_first n is =
     let few = glyph_few n is in
     let small : n < 0x11_0000 = grind (arith, nat_tests) in
     text_first n n (omega arith) (some_of (n == 0) (glyph_passes (λ n. if n == 0 then false else true) refl refl n is))
+
+-- ---- the colours of a look
+
+pub colour_is : (n : ℕ) → n < COLOURS → is_colour (colour_of n) ≡ true
+colour_is n small = elim (eqb_tells n 0) [
+  | inl e ↦ rw e.0 refl
+  | inr e ↦ rw e.0 (go (nat_lt n 0x101) refl)
+]
+  where
+    go : (few : Bool) → nat_lt n 0x101 ≡ few → is_colour (if few then Indexed (n - 1) else rgb_of (n - 0x101)) ≡ true
+    go true few = let low : n < 0x101 = grind (arith, nat_tests, few) in let byte : nat_lt (n - 1) 0x100 ≡ true = grind (arith, nat_tests, low) in byte
+    go false few =
+        let red : nat_lt ((n - 0x101) / 0x10000) 0x100 ≡ true = grind (arith, nat_tests, small) in
+        let green : nat_lt ((n - 0x101) / 0x100 % 0x100) 0x100 ≡ true = grind (arith, nat_tests) in
+        let blue : nat_lt ((n - 0x101) % 0x100) 0x100 ≡ true = grind (arith, nat_tests) in
+        rw (red, green, blue) refl
+
+pub look_is : (w : ℕ) → IsLook w → has_colours (look_of w) ≡ true
+look_is w is = rw (colour_is (w % 0x4000000) is.foreground, colour_is (w / 0x4000000 % 0x4000000) is.background) refl
+
+pub cell_is : (t w : ℕ) → IsText t → IsLook w → is_sound_cell (parts_of t w) ≡ true
+cell_is t w text look = ap (λ (b : Bool). b && has_colours (look_of w)) text.writable ∙ look_is w look

@@ -1,5 +1,5 @@
 -- A cell as two numbers of 64 bits. (this profile)
-use Rattle.std.specs.Prelude.{ℕ, ◌+◌, ◌-◌, ◌*◌, ◌/◌, ◌%◌, ◌<◌, Bool, ◌==◌, nat_lt, nat_le, IsTrue, if◌then◌else◌}
+use Rattle.std.specs.Prelude.{ℕ, ◌+◌, ◌-◌, ◌*◌, ◌/◌, ◌%◌, ◌<◌, Bool, true, ◌==◌, ◌&&◌, nat_lt, nat_le, IsTrue, if◌then◌else◌}
 use Rattle.vt_xterm_cell.specs.declared.look.Colour.{Colour}
 use Rattle.vt_xterm_cell.specs.declared.look.Colour.TheVariants.{Default, Indexed, Rgb}
 use Rattle.vt_xterm_cell.specs.declared.look.Attributes.{Attributes}
@@ -90,9 +90,22 @@ parts_of text look = record {
 abbrev pub text_word : CellParts → ℕ
 text_word p = p.character + 0x200000 * p.mark + 0x40000000000 * p.other_mark + 0x8000000000000000 * flag p.wide
 
--- a cell can be written again
+-- an index, and red, green and blue, are bytes
+abbrev pub is_colour : Colour → Bool
+is_colour Default = true
+is_colour (Indexed index) = nat_lt index 0x100
+is_colour (Rgb red green blue) = nat_lt red 0x100 && (nat_lt green 0x100 && nat_lt blue 0x100)
+
+abbrev pub has_colours : Look → Bool
+has_colours look = is_colour look.foreground && is_colour look.background
+
+-- a character can be written again
 abbrev pub is_writable : CellParts → Bool
 is_writable p = is_shown p.character p.mark p.other_mark p.wide
+
+-- a cell can be written again, in its look
+abbrev pub is_sound_cell : CellParts → Bool
+is_sound_cell p = is_writable p && has_colours p.look
 
 -- what the numbers of a cell are
 pub record IsText (text : ℕ) : Type 0 where

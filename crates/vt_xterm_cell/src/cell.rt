@@ -373,8 +373,9 @@ impl Cells for XtermCell {
     }
 
     #[inline(always)]
+    #[tactic(auto, using(crate::proofs::Writable::cell_is))]
     fn is_sound(self) {
-        let _ = self.text;
+        let _ = (self.text, self.look);
     }
 
     #[inline(always)]

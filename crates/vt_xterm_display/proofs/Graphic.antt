@@ -7,7 +7,7 @@ use Rattle.std.proofs.lemmas.Bool.Decides.{nat_tests}
 use Rattle.vt_syntax.specs.Class.{IsPlain}
 use Rattle.vt_screen.specs.Grid.{is_within}
 use Rattle.vt_utf8.specs.Cells.{cells}
-use Rattle.vt_xterm_cell.specs.Words.{CellParts}
+use Rattle.vt_xterm_cell.specs.Words.{CellParts, is_writable, has_colours, is_sound_cell}
 use Rattle.vt_xterm_cell.specs.Characters.{is_shown, is_empty, has_columns, is_mark, is_mark_or_none, is_format, are_marks}
 
 either_true : (a b : Bool) → (a || b) ≡ true → (a ≡ true) ⊎ (b ≡ true)
@@ -56,11 +56,12 @@ empty_parts x is =
     (grind (arith, nat_tests, first), grind (arith, nat_tests, mark), grind (arith, nat_tests, other))
 
 -- the character and the marks of a cell are scalar values
-pub shown-scalars : (x : CellParts) → is_shown x.character x.mark x.other_mark x.wide ≡ true
+pub shown-scalars : (x : CellParts) → is_sound_cell x ≡ true
     → (scalar x.character ≡ true) × (scalar x.mark ≡ true) × (scalar x.other_mark ≡ true)
 unfolding is_shown
 shown-scalars x is =
-    go (either_true (is_empty x.character x.mark x.other_mark x.wide) (has_columns x.character x.wide && are_marks x.mark x.other_mark) is)
+    go (either_true (is_empty x.character x.mark x.other_mark x.wide) (has_columns x.character x.wide && are_marks x.mark x.other_mark)
+    (and_parts (is_writable x) (has_colours x.look) is).0)
   where
     go : (is_empty x.character x.mark x.other_mark x.wide ≡ true) ⊎ ((has_columns x.character x.wide && are_marks x.mark x.other_mark) ≡ true)
         → (scalar x.character ≡ true) × (scalar x.mark ≡ true) × (scalar x.other_mark ≡ true)

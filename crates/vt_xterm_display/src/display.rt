@@ -94,7 +94,7 @@ impl XtermDisplay {
 
     /// States that the screen is sound, for proofs. It does nothing when it runs.
     #[inline(always)]
-    pub(crate) fn soundness(&self)
+    pub fn soundness(&self)
         ensures own { IsSoundXterm self.now }
         ensures shown { IsSoundDisplayOf xterm_cells.shown self.now.shown.grid.size self.now.shown }
         ensures other { IsSoundPageAt self.now.other.grid.size self.now.other }

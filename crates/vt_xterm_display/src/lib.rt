@@ -25,4 +25,5 @@ pub use display::XtermDisplay;
 pub use page::Page;
 pub use settings::{Coding, Mouse, Settings, Shape};
 pub use sides::Sides;
+pub use text::push_rows;
 pub use xterm::Xterm;

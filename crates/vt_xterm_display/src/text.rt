@@ -74,8 +74,9 @@ fn push_row(screen: &Screen<XtermCell>, row: usize, out: &mut Vec<u8>)
     push_line(screen.row(row), out);
 }
 
-/// Appends the texts of the first `count` rows of a screen. `out` has capacity for them.
-fn push_rows(screen: &Screen<XtermCell>, count: usize, out: &mut Vec<u8>)
+/// Appends the texts of the first `count` rows of a screen: each row in UTF-8, without the spaces at its end, and LF. `out` has capacity for
+/// them.
+pub fn push_rows(screen: &Screen<XtermCell>, count: usize, out: &mut Vec<u8>)
     requires rows { count ≤ screen.now.size.rows }
     requires room { vec_len out.old + count * xterm_row_limit screen.now.size ≤ vec_capacity out.old }
     ensures items { out.new.items ≡ out.old.items ++ rows_text count screen.now }

@@ -6,9 +6,9 @@ ghost use Rattle.vt_wide.specs.Edits.{columns, joined_column};
 ghost use Rattle.vt_xterm_cell.specs.Cells.{blank_cell, is_second};
 ghost use Rattle.vt_xterm_cell.specs.Wide.{xterm_wide};
 ghost use Rattle.vt_xterm_display.specs.State.{moved};
-ghost use Rattle.vt_xterm_display.specs.Moving.{last_reached};
+ghost use Rattle.vt_xterm_display.specs.Moving.{last_reached, is_between};
 ghost use Rattle.vt_xterm_display.specs.Tabs.{times, is_pending};
-ghost use Rattle.vt_xterm_display.specs.Writing.{wrapped, after_wrap, room, advanced, put};
+ghost use Rattle.vt_xterm_display.specs.Writing.{wrapped, after_wrap, room, advanced, put, with_grid, with_over, with_inserted};
 ghost use Rattle.vt_xterm_display.specs.Writing.{put_if_room, write, print};
 ghost use Rattle.vt_xterm_display.specs.Writing.{mark, write_character, cell_before, repeated, room_after_wrap};
 ghost use Rattle.vt_xterm_display.specs.Writing.{count_in, repeat};
@@ -94,18 +94,43 @@ impl XtermDisplay {
         requires first { is_second cell ≡ false }
         ensures { self.new ≡ put cell self.old }
     {
+        if self.shown.modes.irm && self.is_between() {
+            self.put_inserted(cell);
+        } else {
+            self.put_over(cell);
+        }
+    }
+
+    /// Writes a character that has room over what is there.
+    #[inline(always)]
+    fn put_over(&mut self, cell: XtermCell)
+        requires room { self.old.shown.cursor.col + columns xterm_wide cell ≤ last_reached self.old.sides self.old.shown + 1 }
+        requires first { is_second cell ≡ false }
+        ensures { self.new ≡ with_grid (with_over cell self.old.shown) (advanced (columns xterm_wide cell) self.old) }
+    {
         let Cursor { row, col, .. } = self.shown.cursor;
-        let Sides { right, .. } = self.sides;
         let empty = self.incoming();
-        let inserts = self.shown.modes.irm && self.is_between();
         let (cursor, waits) = self.advanced(columns(cell));
         self.shown.cursor = cursor;
         self.waits = waits;
-        if inserts {
-            put_inserting(&mut self.shown.screen, row, col, right, cell, empty);
-        } else {
-            put(&mut self.shown.screen, row, col, cell, empty);
-        }
+        put(&mut self.shown.screen, row, col, cell, empty);
+    }
+
+    /// Writes a character that has room between the margins, after the cells at and after the cursor moved right.
+    #[inline(never)]
+    fn put_inserted(&mut self, cell: XtermCell)
+        requires between { is_between self.old.sides self.old.shown ≡ true }
+        requires room { self.old.shown.cursor.col + columns xterm_wide cell ≤ last_reached self.old.sides self.old.shown + 1 }
+        requires first { is_second cell ≡ false }
+        ensures { self.new ≡ with_grid (with_inserted cell self.old.sides self.old.shown) (advanced (columns xterm_wide cell) self.old) }
+    {
+        let Cursor { row, col, .. } = self.shown.cursor;
+        let Sides { right, .. } = self.sides;
+        let empty = self.incoming();
+        let (cursor, waits) = self.advanced(columns(cell));
+        self.shown.cursor = cursor;
+        self.waits = waits;
+        put_inserting(&mut self.shown.screen, row, col, right, cell, empty);
     }
 
     /// Writes the character that begins with a cell, if no wrap is pending. A wide one for which one column is left goes to the next line, and

@@ -1,5 +1,7 @@
 //! An xterm.
-ghost use Rattle.std.specs.Prelude.{◌≡◌, ◌≤◌, ◌<◌, ◌+◌, ◌*◌, IfOk, OnOk, OnErr, IsOk, length, take, vec_len, vec_capacity};
+ghost use Rattle.std.specs.Prelude.{◌≡◌, ◌↔◌, [], IsTrue, ◌≤◌, ◌<◌, ◌+◌, ◌*◌, IfOk, OnOk, OnErr, IsOk, length, take, vec_len, vec_capacity};
+ghost use Rattle.vt_syntax.specs.Held.{IsHeldPart};
+ghost use Rattle.vt_syntax.specs.declared.held.Held.TheVariants.{Nothing};
 ghost use Rattle.vt_screen.specs.Sizes.{IsSize};
 ghost use Rattle.vt_screen.specs.Grid.{row_or};
 ghost use Rattle.vt_feed.specs.Languages.{utf8};
@@ -15,7 +17,7 @@ use std::alloc::{AllocError, Global};
 use std::marker::Model;
 use vt_feed::{Nobody, Observer, REPORT_LIMIT, feed_utf8};
 use vt_screen::Size;
-use vt_syntax::Parser;
+use vt_syntax::{Held, Parser};
 use vt_term::{Cursor, Modes};
 use vt_utf8::Decoder;
 use vt_xterm_cell::XtermCell;
@@ -161,5 +163,28 @@ impl Xterm {
         ensures { result ≡ self.now.screen.alternate }
     {
         self.screen.alternate
+    }
+
+    /// Returns the held part of a sequence: what decides how an unfinished one goes on.
+    pub fn held(&self) -> &Held
+        ensures held { result.now ≡ self.now.reading.held }
+        ensures held_part { IsHeldPart self.now.reading.held }
+    {
+        self.parser.held()
+    }
+
+    /// Returns the bytes of a character that isn't complete: at most three.
+    pub fn pending(&self) -> &[u8]
+        ensures pending { result.now ≡ self.now.reading.pending }
+        ensures few { length self.now.reading.pending ≤ 3 }
+    {
+        self.decoder.pending()
+    }
+
+    /// Returns whether it is between sequences, and between characters.
+    pub fn is_between(&self) -> bool
+        ensures { IsTrue result ↔ ((self.now.reading.held ≡ Nothing) × (self.now.reading.pending ≡ [])) }
+    {
+        self.parser.is_between() && self.decoder.is_empty()
     }
 }

@@ -1,12 +1,15 @@
 -- A page is made: its width, what is saved on it, its cells.
-use Rattle.std.proofs.Common.{◌≡◌, inl, inr, ℕ, zero, suc, ◌+◌, ◌-◌, ◌≤◌, ◌<◌, Bool, true, false, Option, None, List, [], ◌∷◌, ◌++◌, length, min, max, arith, rules, refl, sym, ap, ◌∙◌, subst}
+use Rattle.std.proofs.Common.{◌≡◌, inl, inr, ℕ, zero, suc, ◌+◌, ◌-◌, ◌≤◌, ◌<◌, Bool, true, false, Option, Some, None, List, [], ◌∷◌, ◌++◌, length, min, max, arith, rules, refl, sym, ap, ◌∙◌, subst}
 use Rattle.std.specs.Prelude.{nat_le, nat_lt, ◌==◌, ◌⊎◌, not, slice_index_or, if◌then◌else◌}
 use Rattle.std.proofs.lemmas.Bool.Decides.{nat_tests, eqb_tells, leb_tells}
+use Rattle.vt_syntax.specs.declared.event.Event.{Event}
 use Rattle.vt_glyph.specs.declared.set.Set.{Set}
 use Rattle.vt_glyph.specs.declared.set.Set.TheVariants.{Ascii, British, German, Special, Supplemental}
+use Rattle.vt_glyph.specs.Designation.{set_of_final, final_of}
 use Rattle.vt_glyph.specs.GraphicSets.{GraphicSets, AreSoundSets}
 use Rattle.vt_glyph.specs.Invocation.{sets_at_power_up, set_at, glyph_read, after_read}
 use Rattle.vt_glyph.specs.Tables.{space}
+use Rattle.vt_glyph.proofs.Designations.{set_of_final-final_of}
 use Rattle.vt_screen.specs.Grid.{grid_of, at_or, put_any, IsGrid}
 use Rattle.vt_screen.proofs.Places.{cell_at-grid_of, grid_of-same, IsGrid-grid_of}
 use Rattle.vt_wide.specs.Edits.{is_parted, parted_row, written}
@@ -18,8 +21,8 @@ use Rattle.vt_term.specs.declared.state.Cursor.{Cursor}
 use Rattle.vt_term.specs.declared.state.SavedOf.{SavedOf}
 use Rattle.vt_term.specs.State.{at_place, margins_of, modes_at_power_up, saved_any, saved_sets, saved_of}
 use Rattle.vt_term.specs.Functions.{control_any, plain_escape_any, escape_with_any}
-use Rattle.vt_feed.specs.Actions.{Function, printed, state_after}
-use Rattle.vt_paint.specs.Controls.{cursor_position, private_mode, save_cursor, designation, left_event, right_event, sets_events}
+use Rattle.vt_feed.specs.Actions.{Action, Function, printed, state_after}
+use Rattle.vt_paint.specs.Controls.{cursor_position, private_mode, save_cursor, designation, designation_of, left_event, right_event}
 use Rattle.vt_xterm_cell.specs.declared.look.Look.{Look}
 use Rattle.vt_xterm_cell.specs.Look.{plain_look}
 use Rattle.vt_xterm_cell.specs.Words.{CellParts}
@@ -32,7 +35,7 @@ use Rattle.vt_xterm_display.specs.State.{Grid, PageState, XtermState, xterm_kind
 use Rattle.vt_xterm_repaint.specs.Colours.{HasColours}
 use Rattle.vt_xterm_repaint.specs.Looks.{look_actions}
 use Rattle.vt_xterm_repaint.specs.Cells.{grid_actions}
-use Rattle.vt_xterm_repaint.specs.Items.{functions, width_item, saved_item, page_item}
+use Rattle.vt_xterm_repaint.specs.Items.{functions, width_item, set_item, locked_item, sets_item, saved_item, page_item}
 use Rattle.vt_xterm_repaint.proofs.Parts.{IsWidth, IsSaved, IsPageOf}
 use Rattle.vt_xterm_repaint.proofs.Drawing.{Common, drawn}
 use Rattle.vt_xterm_repaint.proofs.Rows.{Shows, after-append, cursor-effect, grid-effect}
@@ -133,10 +136,29 @@ module _ (b : XtermState) where
   right-effect a b d e l r (suc (suc (suc zero))) some few = refl
   right-effect a b d e l r (suc (suc (suc (suc x)))) some few = absurd (omega (arith, few))
 
-  -- the sets that are wanted, whatever sets there are
+  -- a set, and a locking shift, that is sent if it isn't there
+  set-effect : (slot : ℕ) (old new : Set) (F : Set → XtermState)
+      → ((set : Set) → xterm.effect (Function (designation_of slot set)) (F old) ≡ F set)
+      → state_after xterm (set_item slot old new) (F old) ≡ F new
+  set-effect slot old new F sent = elim (eqb_tells (final_of old) (final_of new)) [
+    | inl e ↦ rw e.0 (ap F (one old new e.1))
+    | inr e ↦ rw e.0 (sent new)
+  ]
+    where
+      one : (a b : Set) → final_of a ≡ final_of b → a ≡ b
+      one a b e = let h : Some a ≡ Some b = sym (set_of_final-final_of a) ∙ ap set_of_final e ∙ set_of_final-final_of b in cc
+
+  number-effect : (event : ℕ → Event) (old new : ℕ) (F : ℕ → XtermState) → xterm.effect (Function (event new)) (F old) ≡ F new
+      → state_after xterm (when (not (old == new)) (Function (event new) ∷ [])) (F old) ≡ F new
+  number-effect event old new F sent = elim (eqb_tells old new) [
+    | inl e ↦ rw e.0 (ap F e.1)
+    | inr e ↦ rw e.0 sent
+  ]
+
+  -- the sets that are wanted
   pub sets-effect : (old new : GraphicSets) → AreSoundSets old → AreSoundSets new → old.pending ≡ None → new.pending ≡ None
-      → state_after xterm (functions (sets_events new)) (T old) ≡ T new
-  unfolding sets_events
+      → state_after xterm (sets_item old new) (T old) ≡ T new
+  unfolding sets_item
   sets-effect old new sound are none nothing =
       let a : Set = set_at old 0 in
       let b : Set = set_at old 1 in
@@ -148,13 +170,24 @@ module _ (b : XtermState) where
       let y : Set = set_at new 3 in
       let l : ℕ = old.left in
       let r : ℕ = old.right in
-      ap (λ (sets : GraphicSets). state_after xterm (functions (sets_events new)) (T sets)) (sets-four old sound none)
-      ∙ ap (λ (s : XtermState). state_after xterm (functions (designation ")" v ∷ designation "*" w ∷ designation "+" y ∷ left_event new.left ∷ right_event new.right ∷ [])) s) (g0-effect a b d e u l r)
-      ∙ ap (λ (s : XtermState). state_after xterm (functions (designation "*" w ∷ designation "+" y ∷ left_event new.left ∷ right_event new.right ∷ [])) s) (g1-effect u b d e v l r)
-      ∙ ap (λ (s : XtermState). state_after xterm (functions (designation "+" y ∷ left_event new.left ∷ right_event new.right ∷ [])) s) (g2-effect u v d e w l r)
-      ∙ ap (λ (s : XtermState). state_after xterm (functions (left_event new.left ∷ right_event new.right ∷ [])) s) (g3-effect u v w e y l r)
-      ∙ ap (λ (s : XtermState). state_after xterm (functions (right_event new.right ∷ [])) s) (left-effect u v w y l r new.left are.left)
-      ∙ right-effect u v w y new.left r new.right are.right.0 are.right.1
+      let right = when (not (r == new.right)) (Function (right_event new.right) ∷ []) in
+      let locked = locked_item old new in
+      let e3 = set_item 3 e y ++ locked in
+      let e2 = set_item 2 d w ++ e3 in
+      let e1 = set_item 1 b v ++ e2 in
+      ap (λ (sets : GraphicSets). state_after xterm (set_item 0 a u ++ e1) (T sets)) (sets-four old sound none)
+      ∙ after-append (set_item 0 a u) e1 (T (four a b d e l r))
+      ∙ ap (λ (s : XtermState). state_after xterm e1 s) (set-effect 0 a u (λ x. T (four x b d e l r)) (λ x. g0-effect a b d e x l r))
+      ∙ after-append (set_item 1 b v) e2 (T (four u b d e l r))
+      ∙ ap (λ (s : XtermState). state_after xterm e2 s) (set-effect 1 b v (λ x. T (four u x d e l r)) (λ x. g1-effect u b d e x l r))
+      ∙ after-append (set_item 2 d w) e3 (T (four u v d e l r))
+      ∙ ap (λ (s : XtermState). state_after xterm e3 s) (set-effect 2 d w (λ x. T (four u v x e l r)) (λ x. g2-effect u v d e x l r))
+      ∙ after-append (set_item 3 e y) locked (T (four u v w e l r))
+      ∙ ap (λ (s : XtermState). state_after xterm locked s) (set-effect 3 e y (λ x. T (four u v w x l r)) (λ x. g3-effect u v w e x l r))
+      ∙ after-append (when (not (l == new.left)) (Function (left_event new.left) ∷ [])) right (T (four u v w y l r))
+      ∙ ap (λ (s : XtermState). state_after xterm right s)
+      (number-effect left_event l new.left (λ x. T (four u v w y x r)) (left-effect u v w y l r new.left are.left))
+      ∙ number-effect right_event r new.right (λ x. T (four u v w y new.left x)) (right-effect u v w y new.left r new.right are.right.0 are.right.1)
       ∙ ap T (sym (sets-four new are nothing))
 
 -- ---- the width
@@ -356,7 +389,7 @@ module _ (c : Common) (grid : IsGrid (blank_of c.shape.size c.shape.width)) (sav
       let first = when o (functions (private_mode 6 true ∷ [])) in
       let last = when o (functions (private_mode 6 false ∷ [])) in
       let e = Function save_cursor ∷ last in
-      let sets = functions (sets_events (saved_sets saved)) in
+      let sets = sets_item sets_at_power_up (saved_sets saved) in
       let q : Cursor = if o then at_place 1 1 else p in
       after-append first (Function (cursor_position saved.row saved.col) ∷ (when saved.wrap (printed space ∷ []) ++ (look_actions saved.brush ++ (sets ++ e))))
       (U p plain_look sets_at_power_up false)
@@ -409,7 +442,7 @@ module _ (stops : List Bool) (other : PageState) (alternate : Bool) (page : Page
   page-effect old was =
       let size = page.grid.size in
       let width = width_item size (page.grid.width == size.wide) in
-      let reset = functions (sets_events sets_at_power_up) in
+      let reset = sets_item (saved_sets page.saved) sets_at_power_up in
       let end = look_actions plain_look ++ Function (cursor_position 1 1) ∷ [] in
       let p : Cursor = if page.saved.origin then at_place 1 1 else record { row = page.saved.row; col = page.saved.col; wrap = page.saved.wrap } in
       after-append width (saved_item page.saved ++ (reset ++ (grid_actions page.grid ++ end))) (begun stops other alternate size old)

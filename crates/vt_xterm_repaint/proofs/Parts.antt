@@ -1,7 +1,8 @@
 -- What a repaint's actions need of the state that they make, part by part.
 use Rattle.std.proofs.Common.{◌≡◌, ◌⊎◌, inl, inr, ℕ, ◌+◌, ◌≤◌, ◌<◌, length, Bool, true, false, arith, refl, sym, subst}
-use Rattle.std.specs.Prelude.{IsTrue, ◌||◌, not}
-use Rattle.std.proofs.lemmas.Bool.{false≢true}
+use Rattle.std.specs.Prelude.{IsTrue, ◌||◌, ◌&&◌, not, nat_lt}
+use Rattle.std.proofs.lemmas.Bool.{false≢true, and_parts}
+use Rattle.std.proofs.lemmas.Bool.Decides.{nat_tests}
 use Rattle.vt_glyph.specs.GraphicSets.{AreSoundSets}
 use Rattle.vt_screen.specs.declared.size.Size.{Size}
 use Rattle.vt_screen.specs.Grid.{IsGrid, IsSoundGridOf, at_or}
@@ -12,7 +13,10 @@ use Rattle.vt_term.specs.State.{saved_sets}
 use Rattle.vt_term.specs.Sound.{AreSoundMargins, IsPlace}
 use Rattle.vt_wide.specs.Edits.{is_parted}
 use Rattle.vt_wide.specs.Whole.{IsWhole}
+use Rattle.vt_xterm_cell.specs.declared.look.Colour.{Colour}
+use Rattle.vt_xterm_cell.specs.declared.look.Colour.TheVariants.{Default, Indexed, Rgb}
 use Rattle.vt_xterm_cell.specs.declared.look.Look.{Look}
+use Rattle.vt_xterm_cell.specs.Words.{CellParts, is_colour, has_colours, is_writable, is_sound_cell}
 use Rattle.vt_xterm_cell.specs.Cells.{blank_cell}
 use Rattle.vt_xterm_cell.specs.Kinds.{xterm_cells, blank_cell_shown}
 use Rattle.vt_xterm_cell.specs.Characters.{is_shown}
@@ -22,8 +26,8 @@ use Rattle.vt_xterm_display.specs.State.{Grid, PageState, XtermState, full_sides
 use Rattle.vt_xterm_display.specs.Tabs.{is_pending}
 use Rattle.vt_xterm_display.specs.Whole.{parts_none}
 use Rattle.vt_xterm_repaint.specs.Repaint.{page_shown}
-use Rattle.vt_xterm_repaint.specs.Colours.{HasColours}
-use Rattle.vt_xterm_repaint.specs.Makeable.{IsPaintable, CanBeMade}
+use Rattle.vt_xterm_repaint.specs.Colours.{IsColour, HasColours}
+use Rattle.vt_xterm_repaint.specs.Makeable.{CanBeMade}
 
 -- cells: each wide character has its two cells, each cell has what can be written, and its colours are bytes
 pub record IsPage (t : Grid) : Type 0 where
@@ -102,17 +106,37 @@ some-width g is = go is.width.0 is.width.1
 cell-shown : (g : Grid) → IsSoundGridOf xterm_cells.shown g → (r c : ℕ) → IsTrue (xterm_cells.shown (at_or blank_cell g r c))
 cell-shown g is r c = test-at blank_cell xterm_cells.shown g r c blank_cell_shown is.glyphs
 
+-- what holds of each cell
+cell-writable : (x : CellParts) → is_sound_cell x ≡ true → is_shown x.character x.mark x.other_mark x.wide ≡ true
+cell-writable x is = (and_parts (is_writable x) (has_colours x.look) is).0
+
+colour-bytes : (x : Colour) → is_colour x ≡ true → IsColour x
+colour-bytes Default is = tt
+colour-bytes (Indexed i) is = grind (arith, nat_tests, is)
+colour-bytes (Rgb red green blue) is =
+    let first = and_parts (nat_lt red 0x100) (nat_lt green 0x100 && nat_lt blue 0x100) is in
+    let rest = and_parts (nat_lt green 0x100) (nat_lt blue 0x100) first.1 in
+    let a = first.0 in
+    let b = rest.0 in
+    let c = rest.1 in
+    (grind (arith, nat_tests, a), grind (arith, nat_tests, b), grind (arith, nat_tests, c))
+
+cell-colours : (x : CellParts) → is_sound_cell x ≡ true → HasColours x.look
+cell-colours x is =
+    let both = and_parts (is_colour x.look.foreground) (is_colour x.look.background) (and_parts (is_writable x) (has_colours x.look) is).1 in
+    record { foreground = colour-bytes x.look.foreground both.0; background = colour-bytes x.look.background both.1 }
+
 page-parts : (g : Grid) (saved : SavedOf Look) → IsSoundGridOf xterm_cells.shown g
     → IsPlace g.size.rows g.width saved.row saved.col saved.wrap → AreSoundSets (saved_sets saved)
-    → IsWhole xterm_wide blank_cell g → IsPaintable (record { grid = g; saved = saved }) → IsPageOf (record { grid = g; saved = saved })
-page-parts g saved sound place sets whole page = record {
+    → IsWhole xterm_wide blank_cell g → HasColours saved.brush → IsPageOf (record { grid = g; saved = saved })
+page-parts g saved sound place sets whole colours = record {
   cells = record {
     grid = sound.shape;
     whole = whole;
-    shown = λ r c r1 rh c1 cw. cell-shown g sound r c;
-    colours = page.colours;
+    shown = λ r c r1 rh c1 cw. cell-writable (at_or blank_cell g r c) (cell-shown g sound r c);
+    colours = λ r c r1 rh c1 cw. cell-colours (at_or blank_cell g r c) (cell-shown g sound r c);
   };
-  saved = record { place = place; sets = sets; colours = page.saved };
+  saved = record { place = place; sets = sets; colours = colours };
   width = some-width g sound.shape;
 }
 
@@ -131,10 +155,10 @@ module _ (w : XtermState) (can : CanBeMade w) where
 
   pages : ArePages w
   pages = record {
-    shown = page-parts w.shown.grid w.shown.saved can.display.grid can.display.saved can.display.saved_sets can.sound.kept.shown_whole can.shown_page;
+    shown = page-parts w.shown.grid w.shown.saved can.display.grid can.display.saved can.display.saved_sets can.sound.kept.shown_whole can.saved;
     other = page-parts w.other.grid w.other.saved can.other.grid
         (subst (λ (z : Size). IsPlace z.rows w.other.grid.width w.other.saved.row w.other.saved.col w.other.saved.wrap) (sym can.other.of_size) can.other.saved)
-        can.other.saved_sets can.sound.kept.other_whole can.other_page;
+        can.other.saved_sets can.sound.kept.other_whole can.other_saved;
     one_size = can.other.of_size;
     rows = omega (arith, size.rows);
     wide = record { some = omega (arith, size.narrow, size.wide); narrow = omega (arith, size.narrow); either = inr refl };

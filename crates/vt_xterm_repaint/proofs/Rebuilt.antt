@@ -12,7 +12,7 @@ use Rattle.vt_screen.specs.declared.size.Size.{Size}
 use Rattle.vt_term.specs.declared.state.Cursor.{Cursor}
 use Rattle.vt_term.specs.State.{at_place, modes_at_power_up, stops_of, is_stop_at_power_up}
 use Rattle.vt_feed.specs.Actions.{state_after}
-use Rattle.vt_paint.specs.Controls.{private_mode, sets_events}
+use Rattle.vt_paint.specs.Controls.{private_mode}
 use Rattle.vt_wide.specs.Edits.{is_parted, first_column, columns}
 use Rattle.vt_wide.specs.Whole.{beside, Fit}
 use Rattle.vt_xterm_cell.specs.declared.look.Look.{Look}
@@ -28,7 +28,7 @@ use Rattle.vt_xterm_display.specs.Tabs.{is_pending}
 use Rattle.vt_xterm_display.specs.Writing.{with_grid, advanced, room}
 use Rattle.vt_xterm_repaint.specs.Looks.{look_actions}
 use Rattle.vt_xterm_repaint.specs.Cells.{mark_actions, glyph_actions}
-use Rattle.vt_xterm_repaint.specs.Items.{functions, margins_item, move_item, again_item, cursor_item, modes_item, settings_item, shift_item}
+use Rattle.vt_xterm_repaint.specs.Items.{functions, sets_item, margins_item, move_item, again_item, cursor_item, modes_item, settings_item, shift_item}
 use Rattle.vt_xterm_repaint.specs.Repaint.{page_shown, first_actions, pages_actions, last_actions, repaint_actions}
 use Rattle.vt_xterm_repaint.specs.Painted.{placed}
 use Rattle.vt_xterm_repaint.proofs.Parts.{IsPage, AreMargins, IsCursor, HasParts}
@@ -381,16 +381,16 @@ module _ (w : XtermState) (can : HasParts w) where
 
   -- from where the cursor is placed
   rest-made : (left : Look)
-      → state_after xterm (look_actions w.shown.brush ++ (functions (sets_events w.shown.sets) ++ (modes_item w.shown.modes
+      → state_after xterm (look_actions w.shown.brush ++ (sets_item sets_at_power_up w.shown.sets ++ (modes_item w.shown.modes
       ++ (settings_item w.settings ++ (when (not w.resizes) (functions (private_mode 40 false ∷ [])) ++ shift_item w.shown.sets.pending))))) (with_cursor left) ≡ w
-  unfolding sets_events
+  unfolding sets_item
   rest-made left =
       let sets = w.shown.sets in
       let e5 = shift_item sets.pending in
       let e4 = when (not w.resizes) (functions (private_mode 40 false ∷ [])) ++ e5 in
       let e3 = settings_item w.settings ++ e4 in
       let e2 = modes_item w.shown.modes ++ e3 in
-      let e1 = functions (sets_events sets) ++ e2 in
+      let e1 = sets_item sets_at_power_up sets ++ e2 in
       let s1 = with_cursor w.shown.brush in
       let s2 = record s1 { shown = record s1.shown { sets = unshifted sets } } in
       let s3 = record s2 { shown = record s2.shown { modes = w.shown.modes } } in
@@ -398,7 +398,7 @@ module _ (w : XtermState) (can : HasParts w) where
       let s5 = record s4 { resizes = w.resizes } in
       after-append (look_actions w.shown.brush) e1 (with_cursor left)
       ∙ ap (λ (s : XtermState). state_after xterm e1 s) (look-selected w.shown.brush (with_cursor left) can.look)
-      ∙ after-append (functions (sets_events sets)) e2 s1
+      ∙ after-append (sets_item sets_at_power_up sets) e2 s1
       ∙ ap (λ (s : XtermState). state_after xterm e2 s)
       (sets-effect s1 sets_at_power_up (unshifted sets) power_up_sound (unshifted_sound sets can.sets) refl refl)
       ∙ after-append (modes_item w.shown.modes) e3 s2
@@ -414,7 +414,7 @@ module _ (w : XtermState) (can : HasParts w) where
   unfolding last_actions
   last-made =
       let o = w.shown.modes.decom in
-      let e4 = look_actions w.shown.brush ++ (functions (sets_events w.shown.sets) ++ (modes_item w.shown.modes
+      let e4 = look_actions w.shown.brush ++ (sets_item sets_at_power_up w.shown.sets ++ (modes_item w.shown.modes
       ++ (settings_item w.settings ++ (when (not w.resizes) (functions (private_mode 40 false ∷ [])) ++ shift_item w.shown.sets.pending)))) in
       let e3 = cursor_item w ++ e4 in
       let e2 = when o (functions (private_mode 6 true ∷ [])) ++ e3 in

@@ -23,7 +23,7 @@ use Rattle.vt_term.specs.Functions.{byte, sequences_any}
 use Rattle.vt_term.specs.Reports.{control_report_any, sequence_report_any}
 use Rattle.vt_feed.specs.Actions.{Action, Function, Character, printed, reports}
 use Rattle.vt_feed.specs.Spelled.{IsSpelled}
-use Rattle.vt_paint.specs.Controls.{sequence_of, protection_to, private_mode, ansi_mode, cursor_position, margins_to, clear_all_tabs, set_tab, save_cursor, reset_to_initial_state, left_event, right_event, sets_events, shift_to, keypad, report_form}
+use Rattle.vt_paint.specs.Controls.{sequence_of, protection_to, private_mode, ansi_mode, cursor_position, margins_to, clear_all_tabs, set_tab, save_cursor, reset_to_initial_state, designation_of, left_event, right_event, shift_to, keypad, report_form}
 use Rattle.vt_wide.specs.Edits.{first_column}
 use Rattle.vt_xterm_cell.specs.declared.look.Look.{Look}
 use Rattle.vt_xterm_cell.specs.Look.{plain_look}
@@ -44,7 +44,7 @@ use Rattle.vt_xterm_display.specs.Tabs.{is_pending}
 use Rattle.vt_xterm_repaint.specs.Looks.{attribute_values, both_colours, same_look, look_actions}
 use Rattle.vt_xterm_repaint.specs.Colours.{HasColours}
 use Rattle.vt_xterm_repaint.specs.Cells.{is_blank, character_action, mark_actions, glyph_actions, cell_actions, are_blank, cells_actions, row_actions, grid_actions}
-use Rattle.vt_xterm_repaint.specs.Items.{functions, width_item, stop_item, stops_item, saved_item, page_item, margins_item, move_item, again_item, cursor_item, modes_item, mouse_item, coding_item, shape_number, style_item, settings_item, shift_item}
+use Rattle.vt_xterm_repaint.specs.Items.{functions, width_item, stop_item, stops_item, set_item, locked_item, sets_item, saved_item, page_item, margins_item, move_item, again_item, cursor_item, modes_item, mouse_item, coding_item, shape_number, style_item, settings_item, shift_item}
 use Rattle.vt_xterm_repaint.specs.Repaint.{page_shown, pages_actions, last_actions, repaint_actions}
 use Rattle.vt_xterm_repaint.proofs.Parts.{IsPage, IsPageOf, ArePages, AreMargins, HasParts}
 use Rattle.vt_xterm_repaint.proofs.Rows.{graphic_parts}
@@ -242,18 +242,29 @@ right-sent slot = by (slot == 1) (slot == 2)
     by false true = escape-sent (byte "}") (inr (omega arith, omega arith))
     by false false = escape-sent (byte "|") (inr (omega arith, omega arith))
 
-sets-sent : (sets : GraphicSets) → Sends (functions (sets_events sets))
-unfolding sets_events
-sets-sent sets = (
-  designation-sent (byte "(") (set_at sets 0) (omega arith) (omega arith),
-  (
-    designation-sent (byte ")") (set_at sets 1) (omega arith) (omega arith),
-    (
-      designation-sent (byte "*") (set_at sets 2) (omega arith) (omega arith),
-      (designation-sent (byte "+") (set_at sets 3) (omega arith) (omega arith), (left-sent sets.left, (right-sent sets.right, tt))),
-    ),
-  ),
-)
+one-sent : (test : Bool) (x : Action) → IsSendable x → Sends (when test (x ∷ []))
+one-sent test x is = when-sent test (x ∷ []) (is, tt)
+
+sets-sent : (old new : GraphicSets) → Sends (sets_item old new)
+unfolding sets_item
+sets-sent old new =
+    let left = when (not (old.left == new.left)) (Function (left_event new.left) ∷ []) in
+    let right = when (not (old.right == new.right)) (Function (right_event new.right) ∷ []) in
+    let locked = locked_item old new in
+    let one = set_item 1 (set_at old 1) (set_at new 1) in
+    let two = set_item 2 (set_at old 2) (set_at new 2) in
+    let three = set_item 3 (set_at old 3) (set_at new 3) in
+    both-sent (set_item 0 (set_at old 0) (set_at new 0)) (one ++ (two ++ (three ++ locked)))
+    (one-sent (not (final_of (set_at old 0) == final_of (set_at new 0))) (Function (designation_of 0 (set_at new 0)))
+    (designation-sent (byte "(") (set_at new 0) (omega arith) (omega arith)))
+    (both-sent one (two ++ (three ++ locked)) (one-sent (not (final_of (set_at old 1) == final_of (set_at new 1))) (Function (designation_of 1 (set_at new 1)))
+    (designation-sent (byte ")") (set_at new 1) (omega arith) (omega arith)))
+    (both-sent two (three ++ locked) (one-sent (not (final_of (set_at old 2) == final_of (set_at new 2))) (Function (designation_of 2 (set_at new 2)))
+    (designation-sent (byte "*") (set_at new 2) (omega arith) (omega arith)))
+    (both-sent three locked (one-sent (not (final_of (set_at old 3) == final_of (set_at new 3))) (Function (designation_of 3 (set_at new 3)))
+    (designation-sent (byte "+") (set_at new 3) (omega arith) (omega arith)))
+    (both-sent left right (one-sent (not (old.left == new.left)) (Function (left_event new.left)) (left-sent new.left))
+    (one-sent (not (old.right == new.right)) (Function (right_event new.right)) (right-sent new.right))))))
 
 -- ---- looks and characters
 
@@ -384,7 +395,7 @@ saved-sent : (saved : SavedOf Look) → saved.row ≤ 255 → saved.col ≤ 255 
 unfolding saved_item
 saved-sent saved row col has =
     let e5 = Function save_cursor ∷ when saved.origin (functions (private_mode 6 false ∷ [])) in
-    let e4 = functions (sets_events (saved_sets saved)) ++ e5 in
+    let e4 = sets_item sets_at_power_up (saved_sets saved) ++ e5 in
     let e3 = look_actions saved.brush ++ e4 in
     let e2 = when saved.wrap (printed space ∷ []) ++ e3 in
     let e1 = Function (cursor_position saved.row saved.col) ∷ e2 in
@@ -393,7 +404,7 @@ saved-sent saved row col has =
       both-sent (when saved.wrap (printed space ∷ [])) e3
           (when-sent saved.wrap (printed space ∷ []) (space-sent, tt))
           (both-sent (look_actions saved.brush) e4 (look-sent saved.brush has)
-          (both-sent (functions (sets_events (saved_sets saved))) e5 (sets-sent (saved_sets saved)) (save-sent, origin-sent saved.origin false))),
+          (both-sent (sets_item sets_at_power_up (saved_sets saved)) e5 (sets-sent sets_at_power_up (saved_sets saved)) (save-sent, origin-sent saved.origin false))),
     )
 
 page-sent : (page : PageState) → IsPageOf page → Sends (page_item page)
@@ -403,7 +414,7 @@ page-sent page is =
     both-sent (width_item page.grid.size (page.grid.width == page.grid.size.wide)) _ (width-sent page.grid.size (page.grid.width == page.grid.size.wide))
     (both-sent (saved_item page.saved) _ (saved-sent page.saved (omega (arith, is.saved.place.row_last, rows-small page.grid grid))
     (omega (arith, is.saved.place.col_last, width-small page.grid grid)) is.saved.colours)
-    (both-sent (functions (sets_events sets_at_power_up)) _ (sets-sent sets_at_power_up)
+    (both-sent (sets_item (saved_sets page.saved) sets_at_power_up) _ (sets-sent (saved_sets page.saved) sets_at_power_up)
     (both-sent (grid_actions page.grid) _ (grid-sent page.grid is.cells)
     (both-sent (look_actions plain_look) _ (look-sent plain_look plain_has) home-sent))))
 
@@ -550,12 +561,12 @@ last-sent w can =
     let e4 = resizing ++ shift_item w.shown.sets.pending in
     let e3 = settings_item w.settings ++ e4 in
     let e2 = modes_item w.shown.modes ++ e3 in
-    let e1 = functions (sets_events w.shown.sets) ++ e2 in
+    let e1 = sets_item sets_at_power_up w.shown.sets ++ e2 in
     both-sent (margins_item w) _ (bounds-sent w can.pages.shown.cells.grid can.margins)
     (both-sent (when w.shown.modes.decom (functions (private_mode 6 true ∷ []))) _ (origin-sent w.shown.modes.decom true)
     (both-sent (cursor_item w) _ (cursor-sent w can)
     (both-sent (look_actions w.shown.brush) e1 (look-sent w.shown.brush can.look)
-    (both-sent (functions (sets_events w.shown.sets)) e2 (sets-sent w.shown.sets)
+    (both-sent (sets_item sets_at_power_up w.shown.sets) e2 (sets-sent sets_at_power_up w.shown.sets)
     (both-sent (modes_item w.shown.modes) e3 (modes-sent w.shown.modes)
     (both-sent (settings_item w.settings) e4 (settings-sent w.settings)
     (both-sent resizing (shift_item w.shown.sets.pending)

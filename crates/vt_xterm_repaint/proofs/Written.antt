@@ -1,17 +1,21 @@
 -- What the writer appends: cells, one after another, and items of a range.
-use Rattle.std.proofs.Common.{◌≡◌, ℕ, zero, suc, ◌+◌, ◌-◌, ◌<◌, Bool, true, false, List, [], ◌∷◌, ◌++◌, length, get_or, drop, arith, refl, sym, ap, ◌∙◌, subst, append-nil, append_assoc}
+use Rattle.std.proofs.Common.{◌≡◌, ℕ, zero, suc, ◌+◌, ◌-◌, ◌<◌, Bool, true, false, None, List, [], ◌∷◌, ◌++◌, length, get_or, drop, arith, refl, sym, ap, ◌∙◌, subst, append-nil, append_assoc}
 use Rattle.std.specs.Prelude.{not, ◌↔◌, IsTrue, ◌==◌, ◌&&◌, if◌then◌else◌}
 use Rattle.std.specs.List.{range_with_len, flat_map}
 use Rattle.std.proofs.lemmas.Bool.Decides.{nat_tests}
 use Rattle.std.proofs.lemmas.Grind.{flat_map-append}
 use Rattle.std.proofs.lemmas.List.{drop_more}
+use Rattle.vt_glyph.specs.declared.set.Set.{Set}
+use Rattle.vt_glyph.specs.Designation.{final_of}
+use Rattle.vt_glyph.specs.GraphicSets.{GraphicSets}
+use Rattle.vt_glyph.specs.Invocation.{sets_at_power_up}
 use Rattle.vt_screen.specs.Grid.{row_or}
 use Rattle.vt_screen.specs.Same.{same_bool, when}
 use Rattle.vt_feed.specs.Actions.{Action, Function}
 use Rattle.vt_feed.specs.Spelled.{spell_action, spell}
 use Rattle.vt_syntax.specs.declared.event.Event.{Event}
 use Rattle.vt_syntax.specs.Spelling.{spell_event, spell_events}
-use Rattle.vt_paint.specs.Controls.{cursor_position, private_mode, sets_events}
+use Rattle.vt_paint.specs.Controls.{cursor_position, designation_of, private_mode}
 use Rattle.vt_paint.proofs.Pushing.{range-more, Appends}
 use Rattle.vt_xterm_cell.specs.declared.look.Colour.{Colour}
 use Rattle.vt_xterm_cell.specs.declared.look.Colour.TheVariants.{Default, Indexed, Rgb}
@@ -22,7 +26,7 @@ use Rattle.vt_xterm_cell.specs.Words.{CellParts}
 use Rattle.vt_xterm_cell.specs.Cells.{blank_cell, space_with}
 use Rattle.vt_xterm_display.specs.State.{Grid, XtermState}
 use Rattle.vt_xterm_repaint.specs.Looks.{same_colour, same_attributes, same_look, look_actions}
-use Rattle.vt_xterm_repaint.specs.Items.{functions, margins_item, cursor_item}
+use Rattle.vt_xterm_repaint.specs.Items.{functions, set_item, sets_item, margins_item, cursor_item}
 use Rattle.vt_xterm_repaint.specs.Cells.{is_blank, are_blank, cell_actions, cells_actions, row_actions}
 use Rattle.vt_xterm_repaint.specs.Repaint.{last_actions}
 use Rattle.vt_xterm_repaint.specs.Private.Kept.{kept_actions}
@@ -196,6 +200,31 @@ pushed_when {old} {new} b actions h = record { is = go b h }
     go true h = h
     go false h = h
 
+-- a control function, if a test passes
+pub pushed_event_when : {old new bytes : List ℕ} (b : Bool) (event : Event) → bytes ≡ spell_event event → new ≡ old ++ when b bytes
+    → Pushes old new (when b (Function event ∷ []))
+pushed_event_when {old} {new} {bytes} b event is h =
+    pushed_when b (Function event ∷ []) (h ∙ ap (λ (xs : List ℕ). old ++ when b xs) (is ∙ sym (append-nil (spell_event event))))
+
+-- the designation of a slot, by the finals of the sets
+pub pushed_changed_set : {old new bytes : List ℕ} {a b : ℕ} (slot : ℕ) (before after : Set) → a ≡ final_of before → b ≡ final_of after
+    → bytes ≡ spell_event (designation_of slot after) → new ≡ old ++ when (not (a == b)) bytes → Pushes old new (set_item slot before after)
+pushed_changed_set {old} {new} {bytes} slot before after h k is e =
+    pushed_event_when (not (final_of before == final_of after)) (designation_of slot after) is (rw (← h, ← k) e)
+
+-- and by sets that are equal to them
+pub pushed_set : {old new : List ℕ} {x y : Set} (slot : ℕ) (a b : Set) → x ≡ a → y ≡ b → new ≡ old ++ spell (set_item slot x y)
+    → Pushes old new (set_item slot a b)
+pushed_set slot a b h k e = record { is = rw (← h, ← k) e }
+
+-- the same sets
+pub sets_item-same : (g h : List Set) (l m r n : ℕ) (a b : GraphicSets) → g ≡ a.g → l ≡ a.left → r ≡ a.right
+    → h ≡ b.g → m ≡ b.left → n ≡ b.right
+    → sets_item (record { g = g; left = l; right = r; pending = None }) (record { g = h; left = m; right = n; pending = None })
+    ≡ sets_item a b
+unfolding sets_item
+sets_item-same g h l m r n a b i j k x y z = rw (i, j, k, x, y, z) refl
+
 -- a row that isn't blank
 pub row_written : (g : Grid) (row : ℕ) (old new : List ℕ) → are_blank (row_or blank_cell g row) ≡ false
     → Pushes old new (Function (cursor_position row 1) ∷ (look_actions plain_look ++ cells_actions plain_look (row_or blank_cell g row)))
@@ -215,7 +244,7 @@ in_a_row a b c d e f =
 -- the place, the pen and the rest
 pub last_written : (s : XtermState) (old new : List ℕ)
     → Pushes old new ((margins_item s ++ (when s.shown.modes.decom (functions (private_mode 6 true ∷ [])) ++ cursor_item s))
-    ++ ((look_actions s.shown.brush ++ functions (sets_events s.shown.sets))
+    ++ ((look_actions s.shown.brush ++ sets_item sets_at_power_up s.shown.sets)
     ++ kept_actions s.shown.modes s.settings s.resizes s.shown.sets.pending))
     → new ≡ old ++ spell (last_actions s)
 unfolding last_actions kept_actions
@@ -223,5 +252,5 @@ last_written s old new h =
     h.is
     ∙ ap (λ (actions : List Action). old ++ spell actions)
     (in_a_row (margins_item s) (when s.shown.modes.decom (functions (private_mode 6 true ∷ []))) (cursor_item s)
-    (look_actions s.shown.brush) (functions (sets_events s.shown.sets))
+    (look_actions s.shown.brush) (sets_item sets_at_power_up s.shown.sets)
     (kept_actions s.shown.modes s.settings s.resizes s.shown.sets.pending))

@@ -4,7 +4,10 @@ use Rattle.std.specs.List.{range_with_len, flat_map}
 use Rattle.vt_syntax.specs.declared.event.Event.{Event}
 use Rattle.vt_syntax.specs.declared.event.Event.TheVariants.{Sequence}
 use Rattle.vt_glyph.specs.Tables.{space}
-use Rattle.vt_glyph.specs.Invocation.{sets_at_power_up}
+use Rattle.vt_glyph.specs.declared.set.Set.{Set}
+use Rattle.vt_glyph.specs.Designation.{final_of}
+use Rattle.vt_glyph.specs.GraphicSets.{GraphicSets}
+use Rattle.vt_glyph.specs.Invocation.{sets_at_power_up, set_at}
 use Rattle.vt_screen.specs.declared.size.Size.{Size}
 use Rattle.vt_screen.specs.Grid.{at_or}
 use Rattle.vt_screen.specs.Same.{when}
@@ -15,7 +18,7 @@ use Rattle.vt_term.specs.Answers.{line_of_cursor}
 use Rattle.vt_term.specs.Functions.{byte}
 use Rattle.vt_feed.specs.Actions.{Action, Function, printed}
 use Rattle.vt_wide.specs.Edits.{first_column}
-use Rattle.vt_paint.specs.Controls.{sequence_of, private_mode, ansi_mode, cursor_position, margins_to, clear_all_tabs, set_tab, save_cursor, sets_events, shift_to, keypad, report_form}
+use Rattle.vt_paint.specs.Controls.{sequence_of, private_mode, ansi_mode, cursor_position, margins_to, clear_all_tabs, set_tab, save_cursor, designation_of, left_event, right_event, shift_to, keypad, report_form}
 use Rattle.vt_xterm_cell.specs.declared.look.Look.{Look}
 use Rattle.vt_xterm_cell.specs.Look.{plain_look}
 use Rattle.vt_xterm_cell.specs.Cells.{blank_cell}
@@ -49,6 +52,25 @@ stops_item size stops =
     width_item size true
     ++ Function clear_all_tabs ∷ (flat_map (stop_item stops) (range_with_len 1 size.wide) ++ Function (cursor_position 1 1) ∷ [])
 
+-- SCS of a slot, if it has another set
+abbrev pub set_item : ℕ → Set → Set → List Action
+set_item slot old new = when (not (final_of old == final_of new)) (Function (designation_of slot new) ∷ [])
+
+-- the locking shifts, if other sets are in GL and GR
+abbrev pub locked_item : GraphicSets → GraphicSets → List Action
+locked_item old new =
+    when (not (old.left == new.left)) (Function (left_event new.left) ∷ [])
+    ++ when (not (old.right == new.right)) (Function (right_event new.right) ∷ [])
+
+-- what leads from sets to others, in which no single shift is pending. (In real xterm SCS of G2 and G3 as Supplemental ends UTF-8.)
+unfoldable pub sets_item : GraphicSets → GraphicSets → List Action
+sets_item old new =
+    set_item 0 (set_at old 0) (set_at new 0)
+    ++ (set_item 1 (set_at old 1) (set_at new 1)
+    ++ (set_item 2 (set_at old 2) (set_at new 2)
+    ++ (set_item 3 (set_at old 3) (set_at new 3)
+    ++ locked_item old new)))
+
 -- what is saved, by DECSC. On a blank page in the plain look a space in the last column makes the wrap pending
 unfoldable pub saved_item : SavedOf Look → List Action
 saved_item saved =
@@ -56,7 +78,7 @@ saved_item saved =
     ++ Function (cursor_position saved.row saved.col)
     ∷ (when saved.wrap (printed space ∷ [])
     ++ (look_actions saved.brush
-    ++ (functions (sets_events (saved_sets saved))
+    ++ (sets_item sets_at_power_up (saved_sets saved)
     ++ (Function save_cursor
     ∷ when saved.origin (functions (private_mode 6 false ∷ []))))))
 
@@ -65,7 +87,7 @@ unfoldable pub page_item : PageState → List Action
 page_item page =
     width_item page.grid.size (page.grid.width == page.grid.size.wide)
     ++ (saved_item page.saved
-    ++ (functions (sets_events sets_at_power_up)
+    ++ (sets_item (saved_sets page.saved) sets_at_power_up
     ++ (grid_actions page.grid
     ++ (look_actions plain_look
     ++ Function (cursor_position 1 1) ∷ []))))

@@ -1,12 +1,13 @@
 -- The repaint of an xterm: one byte string for each state, which rebuilds it on any xterm of its size. (this profile)
 use Rattle.std.specs.Prelude.{ℕ, List, [], ◌∷◌, ◌++◌, true, false, not}
+use Rattle.vt_glyph.specs.Invocation.{sets_at_power_up}
 use Rattle.vt_screen.specs.Same.{when}
 use Rattle.vt_feed.specs.Actions.{Action, Function}
 use Rattle.vt_feed.specs.Spelled.{spell}
-use Rattle.vt_paint.specs.Controls.{private_mode, reset_to_initial_state, sets_events}
+use Rattle.vt_paint.specs.Controls.{private_mode, reset_to_initial_state}
 use Rattle.vt_xterm_display.specs.State.{PageState, XtermState}
 use Rattle.vt_xterm_repaint.specs.Looks.{look_actions}
-use Rattle.vt_xterm_repaint.specs.Items.{functions, stops_item, page_item, margins_item, cursor_item, modes_item, settings_item, shift_item}
+use Rattle.vt_xterm_repaint.specs.Items.{functions, stops_item, sets_item, page_item, margins_item, cursor_item, modes_item, settings_item, shift_item}
 
 abbrev pub page_shown : XtermState → PageState
 page_shown s = record { grid = s.shown.grid; saved = s.shown.saved }
@@ -29,7 +30,7 @@ last_actions s =
     ++ (when s.shown.modes.decom (functions (private_mode 6 true ∷ []))
     ++ (cursor_item s
     ++ (look_actions s.shown.brush
-    ++ (functions (sets_events s.shown.sets)
+    ++ (sets_item sets_at_power_up s.shown.sets
     ++ (modes_item s.shown.modes
     ++ (settings_item s.settings
     ++ (when (not s.resizes) (functions (private_mode 40 false ∷ []))

@@ -2,10 +2,11 @@
 ghost use Rattle.std.specs.Prelude.{◌≡◌, ◌+◌, ◌*◌, ◌≤◌, ◌<◌, ◌++◌, ◌∷◌, [], None, length, slice_index_or, vec_len, vec_capacity};
 ghost use Rattle.std.specs.List.{flat_map, range_with_len};
 ghost use Rattle.vt_glyph.specs.declared.set.Set.TheVariants.{Ascii};
+ghost use Rattle.vt_glyph.specs.Invocation.{sets_at_power_up};
 ghost use Rattle.vt_screen.specs.Same.{when};
 ghost use Rattle.vt_feed.specs.Spelled.{spell};
-ghost use Rattle.vt_paint.specs.Controls.{cursor_position, private_mode, set_tab, sets_events};
-ghost use Rattle.vt_xterm_repaint.specs.Items.{functions, width_item, stop_item, stops_item, saved_item};
+ghost use Rattle.vt_paint.specs.Controls.{cursor_position, private_mode, set_tab};
+ghost use Rattle.vt_xterm_repaint.specs.Items.{functions, width_item, stop_item, stops_item, set_item, sets_item, saved_item};
 
 use crate::functions::push_private_mode;
 use crate::looks::push_look;
@@ -76,30 +77,91 @@ fn set_in(g: &[Set; 4], slot: usize) -> Set
     g[slot]
 }
 
-/// Appends the designations of G0 to G3, and then the locking shifts into GL and GR.
-fn push_sets(g: &[Set; 4], left: u8, right: u8, out: &mut Vec<u8>)
-    requires { vec_len out.old + 16 ≤ vec_capacity out.old }
-    ensures items { out.new.items
-        ≡ out.old.items ++ spell (functions (sets_events (record { g = g.now; left = left; right = right; pending = None }))) }
-    ensures bounded { vec_len out.new ≤ vec_len out.old + 16 }
-    ensures capacity { vec_capacity out.old ≤ vec_capacity out.new }
-{
-    Function::designation(0, set_in(g, 0)).push(out);
-    Function::designation(1, set_in(g, 1)).push(out);
-    Function::designation(2, set_in(g, 2)).push(out);
-    Function::designation(3, set_in(g, 3)).push(out);
-    Function::lock_left(left).push(out);
-    Function::lock_right(right).push(out);
+/// Which sets are designated as G0 to G3, and the slots of those in GL and GR.
+#[derive(Clone, Copy)]
+pub(crate) struct Designated {
+    pub(crate) g: [Set; 4],
+    pub(crate) left: u8,
+    pub(crate) right: u8,
 }
 
-/// Appends the designations and the locking shifts of sets.
-pub(crate) fn push_all_sets(sets: &Sets, out: &mut Vec<u8>)
+/// Returns the designations and the locking shifts of sets.
+pub(crate) fn sets_of(sets: &Sets) -> Designated
+    ensures g { result.g ≡ sets.now.g }
+    ensures left { result.left ≡ sets.now.left }
+    ensures right { result.right ≡ sets.now.right }
+{
+    Designated {
+        g: sets.designations(),
+        left: sets.left(),
+        right: sets.right(),
+    }
+}
+
+/// Appends a control function, if a test passes.
+fn push_function_when(test: bool, function: Function, out: &mut Vec<u8>)
+    requires { vec_len out.old + length function ≤ vec_capacity out.old }
+    ensures items { out.new.items ≡ out.old.items ++ when test function }
+    ensures bounded { vec_len out.new ≤ vec_len out.old + length function }
+    ensures capacity { vec_capacity out.old ≤ vec_capacity out.new }
+{
+    push_when(test, function.bytes(), out);
+}
+
+/// Appends the designation of a slot, if it has another set.
+fn push_set(slot: u8, old: Set, new: Set, out: &mut Vec<u8>)
+    requires { vec_len out.old + 3 ≤ vec_capacity out.old }
+    ensures items { out.new.items ≡ out.old.items ++ spell (set_item slot old new) }
+    ensures bounded { vec_len out.new ≤ vec_len out.old + 3 }
+    ensures capacity { vec_capacity out.old ≤ vec_capacity out.new }
+{
+    push_function_when(
+        old.last() != new.last(),
+        Function::designation(slot, new),
+        out,
+    );
+}
+
+/// Appends what leads from sets to others: the designations of G0 to G3, and then the locking shifts into GL and GR.
+#[tactic(auto, unfolding(crate::specs::Items::sets_item))]
+pub(crate) fn push_sets(old: &Designated, new: &Designated, out: &mut Vec<u8>)
     requires { vec_len out.old + 16 ≤ vec_capacity out.old }
-    ensures items { out.new.items ≡ out.old.items ++ spell (functions (sets_events sets.now)) }
+    ensures items { out.new.items
+        ≡ out.old.items
+        ++ spell (sets_item (record { g = old.now.g; left = old.now.left; right = old.now.right; pending = None })
+        (record { g = new.now.g; left = new.now.left; right = new.now.right; pending = None })) }
     ensures bounded { vec_len out.new ≤ vec_len out.old + 16 }
     ensures capacity { vec_capacity out.old ≤ vec_capacity out.new }
 {
-    push_sets(&sets.designations(), sets.left(), sets.right(), out);
+    push_set(0, set_in(&old.g, 0), set_in(&new.g, 0), out);
+    push_set(1, set_in(&old.g, 1), set_in(&new.g, 1), out);
+    push_set(2, set_in(&old.g, 2), set_in(&new.g, 2), out);
+    push_set(3, set_in(&old.g, 3), set_in(&new.g, 3), out);
+    push_function_when(old.left != new.left, Function::lock_left(new.left), out);
+    push_function_when(old.right != new.right, Function::lock_right(new.right), out);
+}
+
+/// Appends what leads to sets from those of power-up.
+pub(crate) fn push_all_sets(sets: &Sets, out: &mut Vec<u8>)
+    requires { vec_len out.old + 16 ≤ vec_capacity out.old }
+    ensures items { out.new.items ≡ out.old.items ++ spell (sets_item sets_at_power_up sets.now) }
+    ensures bounded { vec_len out.new ≤ vec_len out.old + 16 }
+    ensures capacity { vec_capacity out.old ≤ vec_capacity out.new }
+{
+    push_sets(&sets_of(&Sets::power_up()), &sets_of(sets), out);
+}
+
+/// Returns the designations and the locking shifts that DECSC saved.
+pub(crate) fn saved_sets(saved: &SavedOf<Look>) -> Designated
+    ensures g { result.g ≡ saved.now.g }
+    ensures left { result.left ≡ saved.now.gl }
+    ensures right { result.right ≡ saved.now.gr }
+{
+    Designated {
+        g: saved.g,
+        left: saved.gl,
+        right: saved.gr,
+    }
 }
 
 /// Appends DECOM, if a test passes.
@@ -128,7 +190,7 @@ pub(crate) fn push_saved(saved: &SavedOf<Look>, out: &mut Vec<u8>)
     Function::cursor_to(saved.row as u8, saved.col as u8).push(out);
     push_when(saved.wrap, b" ", out);
     push_look(saved.brush, out);
-    push_sets(&saved.g, saved.gl, saved.gr, out);
+    push_sets(&sets_of(&Sets::power_up()), &saved_sets(saved), out);
     Function::save_cursor().push(out);
     push_origin_when(saved.origin, false, out);
 }

@@ -15,5 +15,6 @@ mod writer;
 pub use characters::{GLYPH_LIMIT, push_glyph};
 pub use functions::{SEQUENCE_LIMIT, push_ansi_mode, push_pair, push_private_mode};
 pub use limits::repaint_limit;
-pub use looks::{LOOK_LIMIT, push_look};
-pub use writer::repaint_reserved;
+pub use looks::{LOOK_LIMIT, push_attributes, push_colours, push_look};
+pub use modes::push_style;
+pub use writer::{makeable, repaint_reserved};

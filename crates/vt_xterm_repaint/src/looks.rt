@@ -16,7 +16,7 @@ use vt_xterm_cell::{Attributes, Colour, Look};
 pub const LOOK_LIMIT: usize = 66;
 
 /// Appends SGR that resets all attributes, and sets these.
-fn push_attributes(a: Attributes, out: &mut Vec<u8>)
+pub fn push_attributes(a: Attributes, out: &mut Vec<u8>)
     requires { vec_len out.old + 23 ≤ vec_capacity out.old }
     ensures items { out.new.items ≡ out.old.items ++ spell_event (sequence_of (attribute_values a) (byte "m")) }
     ensures bounded { vec_len out.new ≤ vec_len out.old + 23 }
@@ -81,7 +81,7 @@ fn is_default(colour: Colour) -> bool
 }
 
 /// Appends SGR of the colours, if one of them isn't the default.
-fn push_colours(look: Look, out: &mut Vec<u8>)
+pub fn push_colours(look: Look, out: &mut Vec<u8>)
     requires { vec_len out.old + 38 ≤ vec_capacity out.old }
     ensures items { out.new.items ≡ out.old.items
         ++ spell (when (not (length (both_colours look) == 0)) (Function (sequence_of (both_colours look) (byte "m")) ∷ [])) }

@@ -67,8 +67,8 @@ fn shape_number(shape: Shape) -> u8
     }
 }
 
-/// Appends DECSCUSR.
-fn push_style(shape: Shape, blinks: bool, out: &mut Vec<u8>)
+/// Appends DECSCUSR. `out` has capacity for it.
+pub fn push_style(shape: Shape, blinks: bool, out: &mut Vec<u8>)
     requires { vec_len out.old + 10 ≤ vec_capacity out.old }
     ensures items { out.new.items ≡ out.old.items ++ spell (style_item shape blinks) }
     ensures bounded { vec_len out.new ≤ vec_len out.old + 10 }

@@ -1,28 +1,19 @@
-use Rattle.std.proofs.Common.{None, ap, ◌∙◌}
-use Rattle.vt_syntax.specs.Spelling.{spell_event}
+use Rattle.std.proofs.Common.{None}
 use Rattle.vt_glyph.specs.GraphicSets.{GraphicSets}
 use Rattle.vt_glyph.specs.Invocation.{set_at}
-use Rattle.vt_paint.specs.Controls.{designation, left_event, right_event, sets_events}
-use Rattle.vt_paint.proofs.Pushing.{then_events, function}
-use Rattle.vt_xterm_repaint.proofs.Written.{as_functions}
+use Rattle.vt_paint.specs.Controls.{left_event, right_event}
+use Rattle.vt_xterm_repaint.specs.Items.{sets_item}
+use Rattle.vt_xterm_repaint.proofs.Written.{pushed_set, pushed_event_when, then_pushed}
 use Rattle.vt_xterm_repaint.proofs.items.push_sets.Goals as goal
 
 pub returns-clause-items : goal.returns-clause-items
-unfolding sets_events
+unfolding sets_item
 returns-clause-items c =
-    let sets : GraphicSets = record { g = c.args.g.now; left = c.args.left; right = c.args.right; pending = None } in
-    as_functions
-    (then_events
-    (function (designation "(" (set_at sets 0))
-    (c.designation.ensures.value ∙ ap (λ s. spell_event (designation "(" s)) c.set_in.ensures) c.push.ensures.items)
-    (then_events
-    (function (designation ")" (set_at sets 1))
-    (c.designation-2.ensures.value ∙ ap (λ s. spell_event (designation ")" s)) c.set_in-2.ensures) c.push-2.ensures.items)
-    (then_events
-    (function (designation "*" (set_at sets 2))
-    (c.designation-3.ensures.value ∙ ap (λ s. spell_event (designation "*" s)) c.set_in-3.ensures) c.push-3.ensures.items)
-    (then_events
-    (function (designation "+" (set_at sets 3))
-    (c.designation-4.ensures.value ∙ ap (λ s. spell_event (designation "+" s)) c.set_in-4.ensures) c.push-4.ensures.items)
-    (then_events (function (left_event c.args.left) c.lock_left.ensures.value c.push-5.ensures.items)
-    (function (right_event c.args.right) c.lock_right.ensures.value c.push-6.ensures.items))))))
+    let a : GraphicSets = record { g = c.args.old.now.g; left = c.args.old.now.left; right = c.args.old.now.right; pending = None } in
+    let b : GraphicSets = record { g = c.args.new.now.g; left = c.args.new.now.left; right = c.args.new.now.right; pending = None } in
+    (then_pushed (pushed_set 0 (set_at a 0) (set_at b 0) c.set_in.ensures c.set_in-2.ensures c.push_set.ensures.items)
+    (then_pushed (pushed_set 1 (set_at a 1) (set_at b 1) c.set_in-3.ensures c.set_in-4.ensures c.push_set-2.ensures.items)
+    (then_pushed (pushed_set 2 (set_at a 2) (set_at b 2) c.set_in-5.ensures c.set_in-6.ensures c.push_set-3.ensures.items)
+    (then_pushed (pushed_set 3 (set_at a 3) (set_at b 3) c.set_in-7.ensures c.set_in-8.ensures c.push_set-4.ensures.items)
+    (then_pushed (pushed_event_when _ (left_event b.left) c.lock_left.ensures.value c.push_function_when.ensures.items)
+    (pushed_event_when _ (right_event b.right) c.lock_right.ensures.value c.push_function_when-2.ensures.items)))))).is

@@ -1,14 +1,16 @@
 use Rattle.std.proofs.Common.{◌∙◌, ℕ, ap}
 use Rattle.std.specs.Prelude.{◌==◌}
 use Rattle.vt_glyph.specs.GraphicSets.{GraphicSets}
+use Rattle.vt_glyph.specs.Invocation.{sets_at_power_up}
+use Rattle.vt_term.specs.State.{saved_sets}
 use Rattle.vt_screen.specs.declared.size.Size.{Size}
-use Rattle.vt_paint.specs.Controls.{cursor_position, sets_events}
+use Rattle.vt_paint.specs.Controls.{cursor_position}
 use Rattle.vt_xterm_cell.specs.declared.look.Look.{Look}
 use Rattle.vt_xterm_cell.specs.Words.{CellParts}
 use Rattle.vt_xterm_repaint.specs.Looks.{look_actions}
 use Rattle.vt_xterm_repaint.specs.Cells.{grid_actions}
-use Rattle.vt_xterm_repaint.specs.Items.{functions, width_item, saved_item, page_item}
-use Rattle.vt_xterm_repaint.proofs.Written.{pushed, pushed_as, pushed_function, then_pushed}
+use Rattle.vt_xterm_repaint.specs.Items.{functions, width_item, sets_item, saved_item, page_item}
+use Rattle.vt_xterm_repaint.proofs.Written.{pushed, pushed_as, sets_item-same, pushed_function, then_pushed}
 use Rattle.vt_xterm_repaint.proofs.writer.push_page.Goals as goal
 
 pub returns-clause-items : goal.returns-clause-items
@@ -21,7 +23,11 @@ returns-clause-items c =
     ∙ ap (λ (w : ℕ). width_item g.size (w == g.size.wide)) c.width.ensures.width) c.push_width.ensures.items)
     (then_pushed (pushed (saved_item c.args.saved.now) c.push_saved.ensures.items)
     (then_pushed
-    (pushed_as (ap (λ (sets : GraphicSets). functions (sets_events sets)) c.power_up.ensures) c.push_all_sets.ensures.items)
+    (pushed_as
+    (sets_item-same _ _ _ _ _ _ (saved_sets c.args.saved.now) sets_at_power_up c.saved_sets.ensures.g c.saved_sets.ensures.left c.saved_sets.ensures.right
+    (c.sets_of.ensures.g ∙ ap (λ (x : GraphicSets). x.g) c.power_up.ensures)
+    (c.sets_of.ensures.left ∙ ap (λ (x : GraphicSets). x.left) c.power_up.ensures)
+    (c.sets_of.ensures.right ∙ ap (λ (x : GraphicSets). x.right) c.power_up.ensures)) c.push_sets.ensures.items)
     (then_pushed (pushed (grid_actions g) c.push_rows.ensures.items)
     (then_pushed
     (pushed_as (ap (λ (look : Look). look_actions look) (c.look.ensures ∙ ap (λ (cell : CellParts). cell.look) c.blank.ensures))

@@ -1,0 +1,4 @@
+mod Shared
+mod Sizes
+mod Cuts
+mod Runs

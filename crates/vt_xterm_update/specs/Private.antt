@@ -1,0 +1,2 @@
+-- Definitions that only private contracts cite. No public clause does, and no reader has to believe it.
+pub mod Appended

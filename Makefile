@@ -5,7 +5,7 @@
 #   make unproved     out/unproved/vt220, the same without a proof, which ./vt220 runs until `make program` is done
 #   make try          prints the screen that the bytes of standard input leave, or those of a small example. The core runs without a proof
 #   make screen       crates/screen/out/screen, the smallest program over the core, which is proved first
-#   make cells        crates/cells/out/cells, which prints the cells of an xterm for tests
+#   make xterms       crates/cells/out/cells and three others, which print for tests what an xterm has
 #   make lib          the library for C in out/: libvt220.a, libvt220.so and vt220.pc, with its headers
 #   make keeper       out/vt220-keep
 #   make player       out/vt220-play, over the reader of recordings
@@ -69,7 +69,7 @@ sources = crates.txt $(shell find $(addprefix crates/,$(call chain,$(1))) -minde
 PROGRAM := crates/vt220/out/vt220
 READER := crates/recording_c/out/librecording_c.a
 SCREEN := crates/screen/out/screen
-CELLS := crates/cells/out/cells
+XTERMS := $(foreach name,cells watched updates rendered,crates/$(name)/out/$(name))
 UNPROVED := out/unproved/vt220
 
 # What is needed after the proofs is looked for before them: the compiler with its headers, and the tools of `make js`.
@@ -82,12 +82,12 @@ ifneq ($(call asks,js install-page),)
 $(call need,npm and wasm-opt,command -v npm >/dev/null && command -v wasm-opt >/dev/null || echo none,npm binaryen)
 endif
 
-.PHONY: everything program unproved try screen cells lib keeper player python js install install-lib install-page uninstall crates version help
+.PHONY: everything program unproved try screen xterms lib keeper player python js install install-lib install-page uninstall crates version help
 everything: program lib keeper player
 program: $(PROGRAM)
 unproved: $(UNPROVED)
 screen: $(SCREEN)
-cells: $(CELLS)
+xterms: $(XTERMS)
 # What rt prints besides the screen is shown if it fails.
 try:
 	@echo 'make try: nothing is proved here; "make screen" proves the core first' >&2
@@ -99,7 +99,7 @@ player: $(OUT)/vt220-play
 python: $(OUT)/_calls.abi3.so
 
 # The time of what the toolchain builds is that of the beginning. So a source that changes meanwhile is newer.
-$(PROGRAM) $(SCREEN) $(CELLS): $$(call sources,$$(notdir $$@))
+$(PROGRAM) $(SCREEN) $(XTERMS): $$(call sources,$$(notdir $$@))
 	@tools/product $(notdir $@) $@ tools/prove $(notdir $@) run -- --help
 $(UNPROVED): $$(call sources,$$(notdir $$@))
 	@begun=$$(mktemp); trap 'rm -f "$$begun"' EXIT; tools/unproved $(notdir $@) $@; touch -r "$$begun" $@

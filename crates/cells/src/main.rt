@@ -4,7 +4,8 @@
 //! than before is a change of the size, and then the bytes are played. Each cell that isn't a plain blank has a line: its row and column, the numbers of
 //! its character and of its marks, 1 if it is wide, its foreground, its background, its attributes as bits, and 1 if it is protected. A colour is -1 for the
 //! default, an index, or 256 and red, green and blue as one number. The second cell of a wide character has the character 0. The line after the cells
-//! has the cursor, whether a wrap is pending, and the modes. After it comes the text of the screen.
+//! has the cursor, whether a wrap is pending, and the modes. The next line has the number of bytes of the log: of the lines that scrolled off, or
+//! left at the top by a change of the size. After it come these lines, and then the text of the screen.
 #![tactic(auto)]
 
 ghost use Rattle.std.specs.Prelude.{IfSome};
@@ -15,6 +16,7 @@ use std::io::{self, Input, Read, Write};
 use vt_screen::Size;
 use vt_xterm_cell::{Attributes, Colour, XtermCell};
 use vt_xterm_display::{Coding, Mouse, Shape, Xterm};
+use vt_xterm_log::{feed_log_reserved, lines_on, xterm_lines_limit};
 
 /// Returns a colour as a number: -1 for the default, an index, or 256 and red, green and blue.
 fn number_of(colour: Colour) -> i64 {
@@ -128,6 +130,27 @@ fn size_of(columns: u8, rows: u8) -> Option<Size>
     })
 }
 
+/// Plays bytes, and appends the lines that scroll off to `lines`. The reports are dropped. Returns `Err` if allocation fails.
+fn feed(
+    terminal: &mut Xterm,
+    sent: &[u8],
+    reports: &mut Vec<u8>,
+    lines: &mut Vec<u8>,
+) -> Result<(), AllocError> {
+    let mut rest = sent;
+    for _ in 0..sent.len() {
+        reports.clear();
+        let Some(room) = rest.len().checked_mul(10) else {
+            return Err(AllocError);
+        };
+        reports.reserve(room)?;
+        lines.reserve(xterm_lines_limit(terminal.size()))?;
+        let played = feed_log_reserved(terminal, rest, reports, lines, usize::MAX);
+        rest = &rest[played..];
+    }
+    Ok(())
+}
+
 /// Changes the size of an xterm, unless it has that size, and plays bytes. Returns `Err` if allocation fails.
 fn play(
     alloc: Global,
@@ -135,15 +158,17 @@ fn play(
     size: Size,
     sent: &[u8],
     reports: &mut Vec<u8>,
+    lines: &mut Vec<u8>,
 ) -> Result<(), AllocError>
     requires { IsSize size }
 {
     if size != terminal.size() {
+        lines_on(terminal, size, lines)?;
         let mut made = Xterm::new(alloc, size)?;
         terminal.resize_into(&mut made);
         *terminal = made;
     }
-    terminal.feed(sent, reports)
+    feed(terminal, sent, reports, lines)
 }
 
 /// Carries out steps, up to one that isn't complete. Returns `Err` if allocation fails.
@@ -152,6 +177,7 @@ fn play_steps(
     terminal: &mut Xterm,
     steps: &[u8],
     reports: &mut Vec<u8>,
+    lines: &mut Vec<u8>,
 ) -> Result<(), AllocError> {
     let mut rest = steps;
     for _ in 0..steps.len() {
@@ -162,13 +188,13 @@ fn play_steps(
             return Ok(());
         };
         let end = (4 + rest[2] as usize + 256 * rest[3] as usize).min(rest.len());
-        play(alloc, terminal, size, &rest[4..end], reports)?;
+        play(alloc, terminal, size, &rest[4..end], reports, lines)?;
         rest = &rest[end..];
     }
     Ok(())
 }
 
-/// Prints the cells, the state and the text.
+/// Prints the cells and the state.
 fn print_screen(rt: &impl Print, terminal: &Xterm) -> io::Result<()> {
     for row in 1..=terminal.size().rows {
         print_row(rt, row, terminal.row(row))?;
@@ -187,11 +213,15 @@ fn main(rt: HostRuntime) -> io::Result<()> {
     };
     let mut terminal = Xterm::new(rt.alloc(), size)?;
     let mut reports = Vec::new(rt.alloc());
-    play_steps(rt.alloc(), &mut terminal, &steps, &mut reports)?;
+    let mut lines = Vec::new(rt.alloc());
+    play_steps(rt.alloc(), &mut terminal, &steps, &mut reports, &mut lines)?;
     print_screen(&rt, &terminal)?;
+    let log_len = lines.len();
+    println!(rt; "log {log_len}")?;
     let mut text = Vec::new(rt.alloc());
     terminal.text(&mut text)?;
     let mut writer = io::writer(&rt);
+    writer.write_all(&lines)?;
     writer.write_all(&text)?;
     writer.flush()
 }

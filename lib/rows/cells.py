@@ -27,6 +27,11 @@ class CellRow(NamedTuple):
         change = [size_of(self.then["to"])] if "to" in self.then else []
         return [spelled(self.sent), *change, spelled(self.then.get("more", ""))]
 
+    @property
+    def log(self):
+        """Returns the lines that leave at the top, or None if the row doesn't say."""
+        return spelled(self.then["log"]).decode() if "log" in self.then else None
+
 
 def value(name, field):
     return spelled(field) if name == "title" else spelled(field).decode()
@@ -36,7 +41,7 @@ def cell_rows():
     for name, size, sent, *fields in lines_of("cells.txt"):
         named = dict(field.split("=", 1) for field in fields)
         here = {of.removeprefix("here."): text for of, text in named.items() if of.startswith("here.")}
-        yield CellRow(name, size_of(size), sent, {of: named[of] for of in ("to", "more") if of in named},
+        yield CellRow(name, size_of(size), sent, {of: named[of] for of in ("to", "more", "log") if of in named},
                       AT_POWER_UP | {of: value(of, text) for of, text in named.items() if of in AT_POWER_UP}, named.get("differs", ""),
                       {of: value(of, text) for of, text in here.items()})
 

@@ -262,12 +262,12 @@ def test_errors():
 
 
 def test_laws():
-    """Each law that docs/PROMISES.md lists is a call of its crate, or of a module of vt_laws."""
+    """Each law that docs/PROMISES.md lists is a call of its crate."""
     section = re.search(r"^### The theorems$.*?^### ", (ROOT / "docs/PROMISES.md").read_text(), re.M | re.S)[0]
     for row in re.findall(r"^\| ([^|]*`[^|]*) \| ", section, re.M):
-        for crate, module, law in re.findall(r"\b(vt_\w+) (?=`)|`(?:(\w+)::)?(\w+)`", row):
-            if crate or module:
-                path = ROOT / "crates" / (f"{crate}/src/laws.rt" if crate else f"vt_laws/src/{module}.rt")
+        for crate, law in re.findall(r"\b(vt_\w+) (?=`)|`(\w+)`", row):
+            if crate:
+                path = ROOT / "crates" / crate / "src/laws.rt"
             assert not law or f"pub fn {law}(" in path.read_text(), f"{path.relative_to(ROOT)} has no law {law}"
 
 

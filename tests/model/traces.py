@@ -1,7 +1,10 @@
 """Traces of the plain terminals, by docs/TRACE.md alone: a line for each event, and for each item without a function."""
+import re
+
 from terminal import ANSI_MODES, BEL, CAN, CSI, DEL, ESC, PRIVATE_MODES, ST, STRINGS, SUB, Terminal
 from utf8 import Utf8Terminal
 from xterm import MODES, Xterm, without_colours
+from xterm_cells import NUMBER_MODES, PLAIN, CellXterm, rendered
 
 CONTROLS = {0x08: "BS", 0x09: "HT", 0x0A: "LF", 0x0B: "VT", 0x0C: "FF", 0x0D: "CR", 0x0E: "SO", 0x0F: "SI", SUB: "SUB",
             0x84: "IND", 0x85: "NEL", 0x88: "HTS", 0x8D: "RI", 0x8E: "SS2", 0x8F: "SS3", 0x9A: "DECID"}
@@ -17,6 +20,9 @@ OF_XTERM = {"E": "CNL", "F": "CPL", "G": "CHA", "`": "HPA", "a": "HPR", "d": "VP
 FIRST_VALUES = dict.fromkeys(["J", "K", "?J", "?K", '"q'], (0, 1, 2)) | {"g": (0, 3), "c": (0,), ">c": (0,), "n": (5, 6), "?n": (15, 26), '"p': (61, 62), "u": (0,)}
 NEEDED = {"m": {0, 1, 4, 5, 7, 22, 24, 25, 27}, "h": set(ANSI_MODES), "l": set(ANSI_MODES), "?h": {3, *PRIVATE_MODES}, "?l": {3, *PRIVATE_MODES}}
 NEEDED_OF_XTERM = NEEDED | {key: NEEDED[key] | set(MODES) for key in ("?h", "?l")}
+NEEDED_OF_CELLS = {key: NEEDED_OF_XTERM[key] | (set(NUMBER_MODES) if key[0] == "?" else set()) for key in ("h", "l", "?h", "?l")}
+# A pen of which each part is another one than that of a plain pen.
+FULL = rendered(PLAIN, [1, 2, 3, 4, 5, 7, 8, 9, 21, 31, 41])
 
 
 def shown(data):
@@ -27,11 +33,12 @@ def shown(data):
 class Traced:
     """The trace of a terminal. It comes before the terminal among the bases of a class."""
 
-    needed, names, renditions = NEEDED, SEQUENCES, list
+    needed, names, renditions, first_values = NEEDED, SEQUENCES, list, FIRST_VALUES
 
     def __init__(self, *size):
+        self.last = None
         self.lines, self.place, self.text_place, self.open_text = [], 0, 0, b""
-        self.item, self.item_place, self.string = b"", 0, None
+        self.item, self.item_place, self.opened = b"", 0, None
         super().__init__(*size)
 
     def line(self, place, name, column=""):
@@ -49,12 +56,15 @@ class Traced:
     def end_item(self, kind=None):
         """Ends an item, with a line if it has no function. Returns its place."""
         if self.item and kind:
-            self.line(self.item_place, "ignored " + kind, shown(self.item[:32]) + (".." if len(self.item) > 32 else ""))
-        self.item, self.string = b"", None
+            self.line(self.item_place, self.name_of_item(kind), shown(self.item[:32]) + (".." if len(self.item) > 32 else ""))
+        self.item, self.opened = b"", None
         return self.item_place
 
+    def name_of_item(self, kind):
+        return "ignored " + kind
+
     def cut_item(self):
-        self.end_item(f"{self.string} string" if self.string else "cut sequence")
+        self.end_item(f"{self.opened} string" if self.opened else "cut sequence")
 
     def trace(self, steps):
         """Plays bytes, and changes to pairs of rows and columns. Returns the trace."""
@@ -67,21 +77,23 @@ class Traced:
             else:
                 self.resize(*step)
                 self.line(self.place, "size", f"{step[1]}x{step[0]}")
+        self.last = None
         self.cut_item()
         self.end_text()
         return "".join(self.lines)
 
     def read(self, byte):
         """Reads a byte before the terminal does: it begins an item, goes on with one, or ends one without a function."""
-        if self.item and (byte == ESC or byte >= 0x80 and not self.string):
+        self.last = byte
+        if self.item and (byte == ESC or byte >= 0x80 and not self.opened):
             self.cut_item()
         if self.item and byte != SUB:
             self.item += bytes([byte])
         elif byte in (ESC, CSI) or byte in STRINGS:
-            self.item, self.item_place, self.string = bytes([byte]), self.place, STRINGS.get(byte)
+            self.item, self.item_place, self.opened = bytes([byte]), self.place, STRINGS.get(byte)
         elif not self.item and byte in (CAN, DEL):
             self.line(self.place, "ignored", shown([byte]))
-        if byte in (CAN, SUB) or self.string and len(self.item) > 1 and (byte == ST or byte == BEL and self.string == "OSC"):
+        if byte in (CAN, SUB) or self.opened and len(self.item) > 1 and (byte == ST or byte == BEL and self.opened == "OSC"):
             self.cut_item()
 
     # The terminal's own functions. Each event is carried out, and has a line. A report has another one.
@@ -95,7 +107,7 @@ class Traced:
 
     def begin(self, byte):
         """A C1 control in its 7-bit form may open a string: the item goes on."""
-        self.string = STRINGS.get(byte)
+        self.opened = STRINGS.get(byte)
         super().begin(byte)
 
     def graphic(self, byte):
@@ -128,7 +140,7 @@ class Traced:
             return max(first, 1) >= (second if 0 < second < self.size.rows else self.size.rows)
         is_of_others = key in ("T", "u") and len(values) > 1 or key == '"p' and first == 62 and second > 2
         is_needed = key not in self.needed or self.needed[key].intersection(self.renditions(values) if key == "m" else values)
-        return is_of_others or not is_needed or first not in FIRST_VALUES.get(key, (first,))
+        return is_of_others or not is_needed or first not in self.first_values.get(key, (first,))
 
 
 class TracedTerminal(Traced, Terminal):
@@ -141,7 +153,7 @@ class TracedUtf8(Traced, Utf8Terminal):
     def read(self, byte):
         if byte < 0x80:
             super().read(byte)
-        elif self.string:
+        elif self.opened:
             self.item += bytes([byte])
         else:
             self.cut_item()
@@ -150,3 +162,20 @@ class TracedUtf8(Traced, Utf8Terminal):
 
 class TracedXterm(TracedUtf8, Xterm):
     needed, names, renditions = NEEDED_OF_XTERM, SEQUENCES | OF_XTERM, staticmethod(without_colours)
+
+
+class TracedCells(TracedUtf8, CellXterm):
+    """An xterm with cells of its own. OSC 0 and OSC 2 have names, unless CAN, SUB or the end of the input ends them."""
+
+    needed, names, first_values = NEEDED_OF_CELLS, SEQUENCES | OF_XTERM | {" q": "DECSCUSR"}, FIRST_VALUES | {" q": range(7)}
+
+    def is_ignored(self, key, values):
+        if key == "m":
+            return all(rendered(pen, values) == pen for pen in (PLAIN, FULL))
+        return super().is_ignored(key, values)
+
+    def name_of_item(self, kind):
+        content = self.item.partition(b"]")[2].removesuffix(b"\a")
+        numbered = kind == "OSC string" and self.last not in (CAN, SUB, None) and re.fullmatch(rb"([0-9]*)(?:;.*)?", content, re.DOTALL)
+        number = int(numbered[1] or b"0") if numbered else None
+        return f"OSC {number}" if number in (0, 2) else super().name_of_item(kind)
